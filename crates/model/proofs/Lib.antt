@@ -1,0 +1,12 @@
+pub mod Decisions
+pub mod Each
+pub mod Greedy
+pub mod Lacking
+pub mod Latest
+pub mod Listed
+pub mod Nearest
+pub mod Outliers
+pub mod Rising
+pub mod Served
+pub mod Shares
+pub mod Walks

@@ -1,0 +1,11 @@
+pub mod Refusals
+pub mod Log
+pub mod Serving
+pub mod Recorded
+pub mod Recording
+pub mod Recipes
+pub mod Verdicts
+pub mod Sheets
+pub mod Choices
+pub mod Counting
+pub mod Examples
