@@ -1,0 +1,4 @@
+pub mod Crossing
+pub mod Gauges
+pub mod Looking
+pub mod Standing

@@ -1,0 +1,4 @@
+pub mod Answers
+pub mod Logs
+pub mod Standing
+pub mod Windows
