@@ -12,16 +12,16 @@ use Rattle.model.specs.Serving.{at, away}
 use Rattle.model.specs.Sheets.{b, good}
 use Rattle.model.specs.Verdicts.{outlier}
 
-abbrev one : Float
+abbrev pub one : Float
 one = ofBits binary32 0x3F80_0000
 
-abbrev one-and-a-half : Float
+abbrev pub one-and-a-half : Float
 one-and-a-half = ofBits binary32 0x3FC0_0000
 
-abbrev two : Float
+abbrev pub two : Float
 two = ofBits binary32 0x4000_0000
 
-abbrev three : Float
+abbrev pub three : Float
 three = ofBits binary32 0x4040_0000
 
 -- the readings of parameter 1 at these positions, recorded one after the other
@@ -58,7 +58,7 @@ abbrev looked : Log → ℕ → ℕ → List ℕ
 looked log p zero = []
 looked log p (suc n) = p ∷ looked log (p + stride log p) n
 
-abbrev same : List ℕ → List ℕ → Bool
+abbrev pub same : List ℕ → List ℕ → Bool
 same [] [] = true
 same [] (y ∷ ys) = false
 same (x ∷ xs) [] = false

@@ -1,5 +1,16 @@
 // Walks through one job: records the sample roll, judges its cells and sheets, counts them, and shows some refusals.
-use model::examples::examples_hold;
+use criteria::criterion::Criterion;
+use criteria::examples::criteria_examples_hold;
+use criteria::ladder::Ladder;
+use criteria::ladder::LadderCriterion;
+use criteria::ranked::Ranked;
+use criteria::ranked::RankedCriterion;
+use criteria::single::Single;
+use criteria::single::SingleCriterion;
+use criteria::tally::ClassDebug;
+use criteria::tally::ClassesDebug;
+use criteria::tally::Tally;
+use criteria::tally::TallyCriterion;
 use model::reading::BLANK;
 use model::refusal::Refusal;
 use model::verdict::Verdict;
@@ -8,6 +19,7 @@ use roll::Roll;
 use sheets::count;
 use sheets::sheet;
 use sheets::verdict;
+use std::fmt::Debug;
 use std::io;
 
 // One line for the answer of a recording call.
@@ -108,6 +120,54 @@ fn show_good_ends(rt: &LibcRuntime, roll: &Roll, recipe: &Recipe) -> io::Result<
     Ok(())
 }
 
+// The mark of each good sheet under a criterion, with the total up to it.
+fn show_marks<C: Criterion>(
+    rt: &LibcRuntime,
+    name: &str,
+    criterion: &C,
+    roll: &Roll,
+    recipe: &Recipe,
+) -> io::Result<()>
+where
+    C::Mark: Debug,
+    C::Total: Debug,
+{
+    println!(rt, "{name}: good-end mark total")?;
+    let mut total = criterion.none();
+    for end in 0..11 {
+        if let Some(found) = sheet(roll, recipe, end) {
+            if found.good {
+                let mark = criterion.mark(roll.size().sheet, &found.counts);
+                total = criterion.add(total, mark);
+                show_mark(rt, end, mark, total)?;
+            }
+        }
+    }
+    let order = criterion.compare(total, criterion.none());
+    println!(rt, "all of them against none: {order:?}")
+}
+
+fn show_mark<M: Debug + Copy, T: Debug + Copy>(
+    rt: &LibcRuntime,
+    end: u32,
+    mark: M,
+    total: T,
+) -> io::Result<()> {
+    print!(rt, "{end} {mark:?}")?;
+    println!(rt, " {total:?}")
+}
+
+fn show_criteria(rt: &LibcRuntime, roll: &Roll, recipe: &Recipe) -> io::Result<()> {
+    let both = Ranked {
+        first: Tally,
+        second: Ladder,
+    };
+    show_marks(rt, "single of 1", &Single { parameter: 1 }, roll, recipe)?;
+    show_marks(rt, "ladder", &Ladder, roll, recipe)?;
+    show_marks(rt, "tally", &Tally, roll, recipe)?;
+    show_marks(rt, "ranked tally ladder", &both, roll, recipe)
+}
+
 fn show_count(rt: &LibcRuntime, roll: &Roll, recipe: &Recipe) -> io::Result<()> {
     match count(roll, recipe) {
         Ok((sheets, looks)) => println!(rt, "count: sheets {sheets}, looks {looks}"),
@@ -141,6 +201,7 @@ fn main(rt: LibcRuntime) -> io::Result<()> {
     show_cells(&rt, &roll, &recipe)?;
     show_good_ends(&rt, &roll, &recipe)?;
     show_count(&rt, &roll, &recipe)?;
+    show_criteria(&rt, &roll, &recipe)?;
     try_bad_calls(&rt, &mut roll, &mut recipe)?;
     show_count(&rt, &roll, &recipe)?;
     tell(&rt, "bar 9 9", roll.bar(9, 9))?;
@@ -154,6 +215,6 @@ fn main(rt: LibcRuntime) -> io::Result<()> {
     tell(&rt, "new 10 3 2", roll.new(10, 3, 2))?;
     tell(&rt, "withdraw 1", roll.withdraw(1))?;
     show_count(&rt, &roll, &recipe)?;
-    let hold = examples_hold();
+    let hold = criteria_examples_hold();
     println!(rt, "worked examples hold: {hold}")
 }

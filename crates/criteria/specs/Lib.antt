@@ -1,0 +1,4 @@
+pub mod Law
+pub mod Sums
+pub mod Delivered
+pub mod Examples
