@@ -1,4 +1,6 @@
 // Calls as data: a list of them is replayed from the start, and each gets its answer.
+#![tactic(auto)]
+
 pub mod answer;
 pub mod call;
 mod making;

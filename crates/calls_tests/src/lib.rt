@@ -1,3 +1,5 @@
 // Replays of short lists of calls.
+#![tactic(auto)]
+
 #[cfg(test)]
 mod replays;

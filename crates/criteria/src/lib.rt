@@ -1,4 +1,6 @@
 // Criteria: what makes one choice of sheets cheaper than another.
+#![tactic(auto)]
+
 pub mod criterion;
 pub mod examples;
 pub mod ladder;

@@ -1,4 +1,6 @@
 // Criteria from outside the library: a later criterion needs nothing but the trait.
+#![tactic(auto)]
+
 #[cfg(test)]
 mod delivered;
 pub mod indifferent;

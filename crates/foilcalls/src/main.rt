@@ -1,4 +1,6 @@
 // Reads a script of calls from standard input, replays it, and prints an answer for each call.
+#![tactic(auto)]
+
 mod named;
 mod script;
 mod showing;

@@ -1,4 +1,6 @@
 // Examples of recording, judging and counting, with what the rules say of each.
+#![tactic(auto)]
+
 #[cfg(test)]
 mod limits;
 #[cfg(test)]

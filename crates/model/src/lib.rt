@@ -1,4 +1,6 @@
 // The words of the subject: readings, bars, recipe rows, verdicts and refusals, with the rules over them in specs/.
+#![tactic(auto)]
+
 pub mod bar;
 pub mod examples;
 pub mod reading;

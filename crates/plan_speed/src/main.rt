@@ -1,5 +1,7 @@
 // Counts and plans the largest roll and one of half its cells and readings. Prints the answers; with the argument
 // `times` it prints microseconds too.
+#![tactic(auto)]
+
 use anyhow::anyhow;
 use choices::work::table;
 use criteria::criterion::Criterion;

@@ -1,4 +1,6 @@
 // Walks through one job: records the sample roll, judges its cells and sheets, counts and plans them, and shows some refusals.
+#![tactic(auto)]
+
 use choices::examples::examples_hold;
 use choices::work::{WorkPlace, table};
 use criteria::criterion::Criterion;

@@ -1,4 +1,6 @@
 // Planning: the best choice of sheets under a criterion.
+#![tactic(auto)]
+
 mod filling;
 pub mod planning;
 

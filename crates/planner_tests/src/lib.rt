@@ -1,4 +1,6 @@
 // Plans of small rolls, with the ends and totals that the rules name, and tables and places of all sizes.
+#![tactic(auto)]
+
 #[cfg(test)]
 mod refusals;
 #[cfg(test)]

@@ -1,4 +1,6 @@
 // The recipe: what each parameter may be, and how many outlier cells a sheet may have.
+#![tactic(auto)]
+
 pub mod entry;
 pub mod held;
 pub mod table;

@@ -1,4 +1,6 @@
 // Sheets: the verdict of a cell, the outlier counts of a sheet, good sheets, and the greatest number of them.
+#![tactic(auto)]
+
 mod bars;
 pub mod counting;
 mod gauge;

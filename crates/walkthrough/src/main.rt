@@ -1,4 +1,6 @@
 // Walks through one job: records the sample roll, judges its cells and sheets, counts them, and shows some refusals.
+#![tactic(auto)]
+
 use criteria::criterion::Criterion;
 use criteria::examples::criteria_examples_hold;
 use criteria::ladder::Ladder;
