@@ -9,18 +9,18 @@ pub returns-in-Ok : goal.returns-in-Ok
 returns-in-Ok g c =
     let log : Log = log_of c.args.roll.now c.args.recipe.now in
     let r = g.C.Criterion.rules c.args.criterion.now in
-    let works : length c.deref-mut.result.now ≡ c.args.work = ap length (c.deref-mut.ensures.value ∙ c.in-ok-table.ensures) ∙ length-replicate c.args.work _ in
-    let rooms : length c.deref-mut-2.result.now ≡ c.args.ends = omega (arith, c.deref-mut-2.ensures.len, c.in-ok-places.ensures.len) in
+    let works : length c.deref_mut.result.now ≡ c.args.work = ap length (c.deref_mut.ensures.value ∙ c.in_ok-table.ensures) ∙ length-replicate c.args.work _ in
+    let rooms : length c.deref_mut-2.result.now ≡ c.args.ends = omega (arith, c.deref_mut-2.ensures.len, c.in_ok-places.ensures.len) in
     let p = c.in-Ok.planned in
     let after = c.plan.new.ends in
-    let ends = c.truncate.ensures.items ∙ ap (take p.sheets) (with_items_is c.in-ok-places.places after (omega (arith, c.plan.auto.ends, c.deref-mut-2.ensures.len))) in
-    plans_accepted log r (length c.deref-mut.result.now) (length c.deref-mut-2.result.now) c.args.work c.args.ends works rooms
-    c.deref-mut-2.result.now after p c.truncate.new.self c.in-Ok.ensures.answer c.in-Ok.ensures.value ends
+    let ends = c.truncate.ensures.items ∙ ap (take p.sheets) (with_items_is c.in_ok-places.places after (omega (arith, c.plan.auto.ends, c.deref_mut-2.ensures.len))) in
+    plans_accepted log r (length c.deref_mut.result.now) (length c.deref_mut-2.result.now) c.args.work c.args.ends works rooms
+    c.deref_mut-2.result.now after p c.truncate.new.self c.in-Ok.ensures.answer c.in-Ok.ensures.value ends
 
 pub returns : goal.returns
 returns g c =
     let log : Log = log_of c.args.roll.now c.args.recipe.now in
     let r = g.C.Criterion.rules c.args.criterion.now in
-    let works : length c.deref-mut.result.now ≡ c.args.work = ap length (c.deref-mut.ensures.value ∙ c.in-ok-table.ensures) ∙ length-replicate c.args.work _ in
-    let rooms : length c.deref-mut-2.result.now ≡ c.args.ends = omega (arith, c.deref-mut-2.ensures.len, c.in-ok-places.ensures.len) in
-    plans_refused log r (length c.deref-mut.result.now) (length c.deref-mut-2.result.now) c.args.work c.args.ends works rooms c.in-Err.refusal c.in-Err.ensures.answer
+    let works : length c.deref_mut.result.now ≡ c.args.work = ap length (c.deref_mut.ensures.value ∙ c.in_ok-table.ensures) ∙ length-replicate c.args.work _ in
+    let rooms : length c.deref_mut-2.result.now ≡ c.args.ends = omega (arith, c.deref_mut-2.ensures.len, c.in_ok-places.ensures.len) in
+    plans_refused log r (length c.deref_mut.result.now) (length c.deref_mut-2.result.now) c.args.work c.args.ends works rooms c.in-Err.refusal c.in-Err.ensures.answer

@@ -11,9 +11,9 @@ use Rattle.calls.specs.Replay.{Ran, Replayed}
 use Rattle.calls.proofs.Runs.{events_more, ran_join}
 use Rattle.calls.proofs.replaying.replay.Goals as goal
 
-pub returns-in-err-take-step : goal.returns-in-err-take-step
-returns-in-err-take-step g c =
-    let p = err_from_is_err_and c.from-residual-in-err-take-step.result c.from-residual-in-err-take-step.ensures.1 in
+pub returns-in_err-take-step : goal.returns-in_err-take-step
+returns-in_err-take-step g c =
+    let p = err_from_is_err_and c.from_residual-in_err-take-step.result c.from_residual-in_err-take-step.ensures.1 in
     rw (p.1, p.2) tt
 
 pub loop-step-preserved : goal.loop-step-preserved
@@ -25,7 +25,7 @@ loop-step-preserved g c =
     let i = c.loop-step.step-index in
     let steps = c.args.steps.now in
     let x = c.step-item.result in
-    let more = ran_join rules from mid to (events (take i steps)) (events_of x) [] (vec_items c.loop-step.answers) (vec_items c.take-step.new.answers) c.loop-step.invariant c.in-ok-take-step.ensures in
+    let more = ran_join rules from mid to (events (take i steps)) (events_of x) [] (vec_items c.loop-step.answers) (vec_items c.take-step.new.answers) c.loop-step.invariant c.in_ok-take-step.ensures in
     let last : events (take (i + 1) steps) ≡ events (take i steps) ++ events_of x = ap events (take_more steps i x (omega arith) ∙ ap (λ y. take i steps ++ y ∷ []) (sym c.step-item.is)) ∙ events_more (take i steps) x in
     let Of : List (Event _) → Type 0 = λ es. Ran rules from to es [] (vec_items c.take-step.new.answers) in
     subst Of (sym last) more
@@ -35,7 +35,7 @@ returns g c =
     let rules = g.C.Criterion.rules in
     let from : Log = log_of c.new.new.self c.fresh-recipe.result in
     let run = c.loop-step.invariant in
-    let many : length c.deref-mut.result.now ≡ c.args.places = omega (arith, c.deref-mut.ensures.len, c.in-ok-readings.ensures.len) in
+    let many : length c.deref_mut.result.now ≡ c.args.places = omega (arith, c.deref_mut.ensures.len, c.in_ok-readings.ensures.len) in
     let roll : roll_log c.new.new.self ≡ after_new (idle c.args.places) c.args.cells c.args.sheet c.args.parameters =
     c.new.ensures.after ∙ ap (λ log. after_new log c.args.cells c.args.sheet c.args.parameters) (c.idle-roll.ensures.value ∙ ap idle many) in
     let Start : Log → Type 0 = λ log. Replayed rules log (events c.args.steps.now) (vec_items c.loop-step.answers) in
@@ -43,6 +43,6 @@ returns g c =
     let Answers : List _ → Type 0 = Replayed rules from (events c.args.steps.now) in
     let Of : List _ → Type 0 = λ ss. Replayed rules from (events ss) run.answers in
     record {
-      new = c.in-default.ensures.answer;
+      new = c.in_default.ensures.answer;
       replayed = subst Start first (subst Answers (sym run.behind) (subst Of (take_all c.loop-step.step-index c.args.steps.now (omega arith)) run.right));
     }

@@ -20,9 +20,9 @@ loop-call-preserved g c =
     let to : Log = log_of c.make-in-trial.new.roll c.make-in-trial.new.trial.recipe.now in
     let i = c.loop-call.call-index in
     let x = c.call-item.result in
-    let answer = c.in-ok-make-in-trial.field-0 in
+    let answer = c.in_ok-make-in-trial.field-0 in
     let one = ran_one rules mid to (made x) answer (vec_items c.loop-call.answers) (vec_items c.push-in-loop-call.new.self)
-    c.in-ok-make-in-trial.ensures.answer (sym c.in-ok-make-in-trial.ensures.after) c.in-ok-push-2.ensures.items in
+    c.in_ok-make-in-trial.ensures.answer (sym c.in_ok-make-in-trial.ensures.after) c.in_ok-push-2.ensures.items in
     let more = ran_join rules from mid to (map made (take i c.args.calls.now)) (made x ∷ []) (vec_items c.push.new.self) (vec_items c.loop-call.answers) (vec_items c.push-in-loop-call.new.self)
     c.loop-call.invariant.1 one in
     let last : map made (take (i + 1) c.args.calls.now) ≡ map made (take i c.args.calls.now) ++ made x ∷ [] =
@@ -42,13 +42,13 @@ returns g c =
     let last : Log = log_of roll trial.recipe.now in
     let to : Log = log_of roll back.0 in
     let beginning = ran_one rules from first begins Accepted (vec_items c.args.answers.now) (vec_items c.push.new.self) refl
-    (ap (λ recipe. with_recipe from recipe) (sym c.trial-trial.ensures.begun)) c.in-ok-push.ensures.items in
+    (ap (λ recipe. with_recipe from recipe) (sym c.trial-trial.ensures.begun)) c.in_ok-push.ensures.items in
     let calls = c.args.calls.now in
     let i = c.loop-call.call-index in
     let all : map made (take i calls) ≡ map made calls = ap (map made) (take_all i calls (omega arith)) in
     let Of : List (Event _) → Type 0 = λ es. Ran rules first last es (vec_items c.push.new.self) (vec_items c.loop-call.answers) in
     let middle : Ran rules first last (map made calls) (vec_items c.push.new.self) (vec_items c.loop-call.answers) = subst Of all c.loop-call.invariant.1 in
     let ending = ran_one rules last to finishes Accepted (vec_items c.loop-call.answers) (vec_items c.push-2.new.self) refl
-    (ap (λ recipe. with_recipe last recipe) (sym (ap recipe_log is ∙ c.drop-trial-2.ensures))) c.in-ok-push-3.ensures.items in
+    (ap (λ recipe. with_recipe last recipe) (sym (ap recipe_log is ∙ c.drop-trial-2.ensures))) c.in_ok-push-3.ensures.items in
     ran_join rules from first to (begins ∷ []) (map made calls ++ finishes ∷ []) (vec_items c.args.answers.now) (vec_items c.push.new.self) (vec_items c.push-2.new.self) beginning
     (ran_join rules first last to (map made calls) (finishes ∷ []) (vec_items c.push.new.self) (vec_items c.loop-call.answers) (vec_items c.push-2.new.self) middle ending)

@@ -12,8 +12,8 @@ loop-i-preserved c =
     let mark = c.args.mark in
     let was = c.loop-i.invariant.rest i (omega arith) in
     split_more 0 (λ k x. x ≡ min (get_or total k 0 + get_or mark k 0) (2 ^ 32 - 1)) (λ k x. x ≡ get_or total k 0)
-    c.loop-i.sums 8 i c.saturating-add.result (omega arith) c.loop-i.invariant
-    (c.saturating-add.ensures ∙ ap (λ x. min (x + get_or mark i 0) (2 ^ 32 - 1)) was)
+    c.loop-i.sums 8 i c.saturating_add.result (omega arith) c.loop-i.invariant
+    (c.saturating_add.ensures ∙ ap (λ x. min (x + get_or mark i 0) (2 ^ 32 - 1)) was)
 
 small : (m : List ℕ) → Marked ladder m → (i : ℕ) → get_or m i 0 ≤ 4096
 small m h i =

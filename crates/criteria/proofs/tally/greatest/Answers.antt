@@ -6,12 +6,12 @@ use Rattle.criteria.proofs.tally.greatest.Goals as goal
 pub loop-count-preserved : goal.loop-count-preserved
 loop-count-preserved c =
     let xs = c.args.counts.now in
-    let i = c.loop-count.count_index in
+    let i = c.loop-count.count-index in
     let e : greatest (drop i xs) ≡ max (get_or xs i 0) (greatest (drop (i + 1) xs)) = at_drop_more greatest xs i 0 (omega arith) in
     omega (arith, c.max-most.ensures, c.loop-count.invariant)
 
 pub returns : goal.returns
 returns c =
     let xs = c.args.counts.now in
-    let e : greatest (drop c.loop-count.count_index xs) ≡ 0 = at_drop_all greatest xs c.loop-count.count_index (omega arith) in
+    let e : greatest (drop c.loop-count.count-index xs) ≡ 0 = at_drop_all greatest xs c.loop-count.count-index (omega arith) in
     omega (arith, c.loop-count.invariant)

@@ -7,8 +7,8 @@ returns c =
     let few : c.args.count * c.args.count ≤ 65535 * 65535 = mul-le-mul small small in
     record { value = refl; few = omega arith }
 
-pub overflow-mul-result : goal.overflow-mul-result
-overflow-mul-result c =
+pub overflow_mul-result : goal.overflow_mul-result
+overflow_mul-result c =
     let small : c.args.count ≤ 65535 = omega arith in
     let few : c.args.count * c.args.count ≤ 65535 * 65535 = mul-le-mul small small in
     omega arith

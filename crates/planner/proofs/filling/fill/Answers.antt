@@ -17,7 +17,7 @@ use Rattle.sheets.specs.Logs.{log_of}
 use Rattle.sheets.proofs.Telling.{told_none, told_sheet}
 use Rattle.planner.proofs.Tables.{Below, Held, below_next, below_one, filled, held_none, held_skip, held_step, read_held}
 use Rattle.planner.proofs.filling.fill.Goals as goal
-use Rattle.planner.proofs.filling.fill.Goals.{in-Some, in-default, in-default·2}
+use Rattle.planner.proofs.filling.fill.Goals.{in-Some, in_default, in_default·2}
 
 pub loop-j-init : goal.loop-j-init
 loop-j-init g c =
@@ -28,13 +28,13 @@ loop-j-init g c =
     let law : Lawful r = record { order = g.met.C.Criterion.order s; adding = g.met.C.Criterion.adding s } in
     let start : WorkPlace _ = record { sheets = 0; total = c.none.result; last = 0 } in
     let known = held_none log r (sound log r c.args.roll.now.piece.0) law H start refl c.none.ensures.value refl c.none.ensures.held in
-    (c.in-ok-scan.ensures.sees, omega (arith, c.in-ok-scan.ensures.start), below_one log r H c.args.work.now start (omega arith) known)
+    (c.in_ok-scan.ensures.sees, omega (arith, c.in_ok-scan.ensures.start), below_one log r H c.args.work.now start (omega arith) known)
 
-pub offset-bounds-work-j : goal.offset-bounds-work-j
-offset-bounds-work-j g c = let h : c.loop-j.j - 1 < length c.args.work.now = omega arith in search rules
+pub offset_bounds-work-j : goal.offset_bounds-work-j
+offset_bounds-work-j g c = let h : c.loop-j.j - 1 < length c.args.work.now = omega arith in search rules
 
-pub offset-bounds-work-behind : goal.offset-bounds-work-behind
-offset-bounds-work-behind g c = let h : c.behind.result < length c.args.work.now = omega (arith, c.behind.ensures) in search rules
+pub offset_bounds-work-behind : goal.offset_bounds-work-behind
+offset_bounds-work-behind g c = let h : c.behind.result < length c.args.work.now = omega (arith, c.behind.ensures) in search rules
 
 pub extended-taken-requires : goal.extended-taken-requires
 extended-taken-requires g c =
@@ -50,8 +50,8 @@ extended-taken-requires g c =
     c.loop-j.invariant.2 back (omega arith) c.index-work-behind.is in
     omega (arith, tells_few log r (sound log r some) c.behind.result c.index-work-behind.result before.tells, c.args.roll.now.foil.1, c.size-size.ensures.cells, c.needed-places.ensures)
 
-pub offset-bounds-work-j-in-loop-j : goal.offset-bounds-work-j-in-loop-j
-offset-bounds-work-j-in-loop-j g c = let h : c.loop-j.j < length c.args.work.now = omega arith in search rules
+pub offset_bounds-work-j-in-loop-j : goal.offset_bounds-work-j-in-loop-j
+offset_bounds-work-j-in-loop-j g c = let h : c.loop-j.j < length c.args.work.now = omega arith in search rules
 
 pub loop-j-preserved : goal.loop-j-preserved
 loop-j-preserved g c =
@@ -74,7 +74,7 @@ loop-j-preserved g c =
     let long : length work ≡ length c.args.work.now = below.many ∙ length-set c.args.work.now 0 start in
     let some : 1 ≤ foil.sheet = foil.piece.0 in
     let sure : Sound (task log r) = sound log r some in
-    let nothing : lacking log ≡ None = none_refused log c.in-ok-scan.ensures.answer in
+    let nothing : lacking log ≡ None = none_refused log c.in_ok-scan.ensures.answer in
     let on : j ≤ foil.cells = omega (arith, c.size-size.ensures.cells, c.needed-places.ensures) in
     let one : 1 ≤ j = c.loop-j.auto.j in
     let far : back ≡ j - foil.sheet = omega (arith, c.behind.ensures, c.size-size.ensures.sheet) in
@@ -92,9 +92,9 @@ loop-j-preserved g c =
           subst Place (sym w.work-is)
           (held_step log r sure law H j v u w.extended-taken.result w.better.result one fine last before w.extended-taken.ensures.sheets sum w.extended-taken.ensures.last
           (w.extended-taken.ensures.held before.held ask) w.better.ensures))
-      | in-default·2 w ↦ (let told = told_sheet log j w.in-Some.sheet (w.in-Some.ensures.value log sees ∙ ap (sheet_at log) here) in
+      | in_default·2 w ↦ (let told = told_sheet log j w.in-Some.sheet (w.in-Some.ensures.value log sees ∙ ap (sheet_at log) here) in
           subst Place (sym w.work-is) (held_skip log r sure law H j v (λ q. both_ways _ (sym q ∙ sym told.1 ∙ w.if-sheet.false) refl) last))
-      | in-default w ↦ subst Place (sym w.work-is) (held_skip log r sure law H j v (told_none log j nothing (w.in-default.ensures.value log sees ∙ ap (sheet_at log) here)) last)
+      | in_default w ↦ subst Place (sym w.work-is) (held_skip log r sure law H j v (told_none log j nothing (w.in_default.ensures.value log sees ∙ ap (sheet_at log) here)) last)
     ] in
     (c.next-end.ensures.sees log sees, omega (arith, c.next-end.ensures.moved log sees), below_next log r H was work j c.match-next-end.work below (omega arith) held)
 
@@ -102,7 +102,7 @@ pub returns : goal.returns
 returns g c =
     let s = c.args.criterion.now in
     let log : Log = log_of c.args.roll.now c.args.recipe.now in
-    let none : lacking log ≡ None = none_refused log c.in-ok-scan.ensures.answer in
+    let none : lacking log ≡ None = none_refused log c.in_ok-scan.ensures.answer in
     let all : is_some (lacking log) ≡ false = ap is_some none in
     let start : WorkPlace _ = record { sheets = 0; total = c.none.result; last = 0 } in
     record {

@@ -23,8 +23,8 @@ use Rattle.planner.proofs.Checks.{decided_by_ends, decided_by_table, enough_room
 use Rattle.planner.proofs.Tables.{read_tells}
 use Rattle.planner.proofs.planning.plan.Goals as goal
 
-pub returns-in-err-fill : goal.returns-in-err-fill
-returns-in-err-fill g c =
+pub returns-in_err-fill : goal.returns-in_err-fill
+returns-in_err-fill g c =
     let log : Log = log_of c.args.roll.now c.args.recipe.now in
     let r = g.C.Criterion.rules c.args.criterion.now in
     let s = c.args.criterion.now in
@@ -32,38 +32,38 @@ returns-in-err-fill g c =
     let best = best_some log r (sound log r c.args.roll.now.piece.0) law in
     let works = length c.args.work.now in
     let rooms = length c.args.ends.now in
-    let e = c.in-err-fill.field-0.0 in
-    let refusal = c.in-err-fill.ensures.answer in
+    let e = c.in_err-fill.field-0.0 in
+    let refusal = c.in_err-fill.ensures.answer in
     let After : Bool → Type 0 = TableAfter log r c.args.work.now c.fill.new.work in
-    let p = err_from_is_err_and c.from-residual.result c.from-residual.ensures.1 in
+    let p = err_from_is_err_and c.from_residual.result c.from_residual.ensures.1 in
     rw (p.1, p.2) (record {
       answer = record { chosen = best.0; best = best.1; by = decided_by_table log works rooms (length best.0) (number e) (told e) refusal };
       value = refl;
-      table = subst After (sym (not_for_ends log works (number e) (told e) refusal)) c.in-err-fill.ensures.table;
+      table = subst After (sym (not_for_ends log works (number e) (told e) refusal)) c.in_err-fill.ensures.table;
       counted = tt;
     })
 
-pub returns-in-err-room : goal.returns-in-err-room
-returns-in-err-room g c =
+pub returns-in_err-room : goal.returns-in_err-room
+returns-in_err-room g c =
     let log : Log = log_of c.args.roll.now c.args.recipe.now in
     let r = g.C.Criterion.rules c.args.criterion.now in
     let x = c.index-work-size.result in
     let cells : c.size-size.result.cells ≡ log.roll.cells = c.size-size.ensures.cells in
-    let table = c.in-ok-fill.ensures.table in
+    let table = c.in_ok-fill.ensures.table in
     let At : ℕ → Type 0 = λ n. Tells log r n x in
     let told-last : Tells log r log.roll.cells x = subst At cells (read_tells log r c.args.work.now c.fill.new.work c.size-size.result.cells x table (omega arith) c.index-work-size.is) in
     let rooms = length c.args.ends.now in
     let works = length c.args.work.now in
-    let e = c.in-err-room.field-0.0 in
-    let refusal : refused (number e) (told e) ≡ decide (room_check rooms x.sheets ∷ []) = c.in-err-room.ensures in
+    let e = c.in_err-room.field-0.0 in
+    let refusal : refused (number e) (told e) ≡ decide (room_check rooms x.sheets ∷ []) = c.in_err-room.ensures in
     let By : ℕ → Type 0 = λ k. refused (number e) (told e) ≡ decide (plan_checks log works rooms k) in
     let After : Bool → Type 0 = TableAfter log r c.args.work.now c.fill.new.work in
-    let p = err_from_is_err_and c.from-residual-in-err-room.result c.from-residual-in-err-room.ensures.1 in
+    let p = err_from_is_err_and c.from_residual-in_err-room.result c.from_residual-in_err-room.ensures.1 in
     rw (p.1, p.2) (record {
       answer = record {
         chosen = told-last.ends;
         best = best_of_all log r told-last.ends told-last.best;
-        by = subst By told-last.sheets (refusal ∙ decided_by_ends log works rooms x.sheets c.in-ok-fill.ensures.answer);
+        by = subst By told-last.sheets (refusal ∙ decided_by_ends log works rooms x.sheets c.in_ok-fill.ensures.answer);
       };
       value = refl;
       table = subst After (sym (for_ends rooms x.sheets (number e) (told e) refusal)) table;
@@ -77,21 +77,21 @@ loop-left-init g c =
     let x = c.index-work-size.result in
     let cells : c.size-size.result.cells ≡ log.roll.cells = c.size-size.ensures.cells in
     let At : ℕ → Type 0 = λ n. Tells log r n x in
-    let told : Tells log r log.roll.cells x = subst At cells (read_tells log r c.args.work.now c.fill.new.work c.size-size.result.cells x c.in-ok-fill.ensures.table (omega arith) c.index-work-size.is) in
+    let told : Tells log r log.roll.cells x = subst At cells (read_tells log r c.args.work.now c.fill.new.work c.size-size.result.cells x c.in_ok-fill.ensures.table (omega arith) c.index-work-size.is) in
     let From : ℕ → Type 0 = λ n. Trace log r c.args.ends.now c.args.ends.now x n x.sheets in
-    subst From (sym cells) (trace_none log r c.args.ends.now x told (enough_room (length c.args.ends.now) x.sheets c.in-ok-room.ensures))
+    subst From (sym cells) (trace_none log r c.args.ends.now x told (enough_room (length c.args.ends.now) x.sheets c.in_ok-room.ensures))
 
-pub offset-bounds-work-at : goal.offset-bounds-work-at
-offset-bounds-work-at g c =
-    let table = c.in-ok-fill.ensures.table in
+pub offset_bounds-work-at : goal.offset_bounds-work-at
+offset_bounds-work-at g c =
+    let table = c.in_ok-fill.ensures.table in
     let h : c.loop-left.at < length c.args.work.now = omega (arith, c.loop-left.invariant.traced.within, table.room, table.many) in
     search rules
 
 pub bounds-work-at : goal.bounds-work-at
-bounds-work-at g c = omega (arith, c.loop-left.invariant.traced.within, c.in-ok-fill.ensures.table.room)
+bounds-work-at g c = omega (arith, c.loop-left.invariant.traced.within, c.in_ok-fill.ensures.table.room)
 
 pub bounds-work-at-in-loop-left : goal.bounds-work-at-in-loop-left
-bounds-work-at-in-loop-left g c = omega (arith, c.loop-left.invariant.traced.within, c.in-ok-fill.ensures.table.room)
+bounds-work-at-in-loop-left g c = omega (arith, c.loop-left.invariant.traced.within, c.in_ok-fill.ensures.table.room)
 
 pub loop-left-preserved : goal.loop-left-preserved
 loop-left-preserved g c =
@@ -99,7 +99,7 @@ loop-left-preserved g c =
     let s = c.args.criterion.now in
     let r = g.C.Criterion.rules s in
     let law : Lawful r = record { order = g.met.C.Criterion.order s; adding = g.met.C.Criterion.adding s } in
-    let table = c.in-ok-fill.ensures.table in
+    let table = c.in_ok-fill.ensures.table in
     let within = c.loop-left.invariant.traced.within in
     let w = get_or c.fill.new.work c.loop-left.at c.index-work-at.result in
     let At : WorkPlace _ → Type 0 = Tells log r c.loop-left.at in
@@ -131,7 +131,7 @@ returns g c =
       answer = record {
         chosen = take x.sheets ends;
         best = best;
-        by = subst By (sym n) (c.in-ok-room.ensures ∙ decided_by_ends log works rooms x.sheets c.in-ok-fill.ensures.answer);
+        by = subst By (sym n) (c.in_ok-room.ensures ∙ decided_by_ends log works rooms x.sheets c.in_ok-fill.ensures.answer);
       };
       value = record {
         room = all.3;
@@ -144,6 +144,6 @@ returns g c =
           sheets = ap (λ t. t.sheets) c.issued.ensures;
         };
       };
-      table = c.in-ok-fill.ensures.table;
+      table = c.in_ok-fill.ensures.table;
       counted = λ sheets looks h. greatest_once log x.sheets sheets (subst Great n (best_greatest log r (take x.sheets ends) best)) h.greatest;
     }

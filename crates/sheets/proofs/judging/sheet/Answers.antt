@@ -20,7 +20,7 @@ pub new-window-requires : goal.new-window-requires
 new-window-requires c =
     let rows = (recipe_log c.args.recipe.now).rows in
     complete (log_of c.args.roll.now c.args.recipe.now)
-    (sym (ap (first_without rows 1) c.size-size.ensures.parameters) ∙ sym c.first_without.ensures ∙ none c.first_without.result (sym c.if-is-some.ensures))
+    (sym (ap (first_without rows 1) c.size-size.ensures.parameters) ∙ sym c.first_without.ensures ∙ none c.first_without.result (sym c.if-is_some.ensures))
 
 pub returns : goal.returns
 returns c =
@@ -31,7 +31,7 @@ returns c =
     let w = c.slide.new.self in
     let low : log.roll.sheet ≤ p = omega (arith, c.if-end-size.false, c.size-size.ensures.sheet) in
     let high : p ≤ log.roll.cells = omega (arith, c.if-end-size-2.false, c.size-size.ensures.cells) in
-    let all : is_some (lacking log) ≡ false = ap is_some (sym (ap (first_without rows 1) c.size-size.ensures.parameters) ∙ sym c.first_without.ensures) ∙ sym c.if-is-some.ensures in
+    let all : is_some (lacking log) ≡ false = ap is_some (sym (ap (first_without rows 1) c.size-size.ensures.parameters) ∙ sym c.first_without.ensures) ∙ sym c.if-is_some.ensures in
     let on : judgeable log p ≡ true = grind (arith, nat_tests) in
     let sees : seen w log.roll.places ≡ log = seen_same v w log.roll.places c.slide.ensures.same ∙ c.new-window.ensures.sees in
     let end : w.end ≡ p = omega (arith, c.slide.ensures.moved, c.new-window.ensures.end, c.size-size.ensures.sheet) in

@@ -11,24 +11,34 @@ use Rattle.model.proofs.Each.{each_push}
 use Rattle.roll.specs.Rolls.{roll_log}
 use Rattle.roll.proofs.held.Roll.bar.Goals as goal
 
-pub invariant-of-self : goal.invariant-of-self
-invariant-of-self c =
+pub invariant_of-self : goal.invariant_of-self
+invariant_of-self c =
     let s = c.args.self.now in
     let b : Bar = record { from = c.args.from; to = c.args.to } in
     let bs : List Bar = take s.standing s.bars in
     let pos : 1 ≤ b.from = grind (arith, c.if-from-eq0.false) in
     let e : take (s.standing + 1) (set s.bars s.standing b) ≡ bs ++ b ∷ [] =
-    take_more_set s.bars s.standing b (omega (arith, s.few.0, c.if-self-ge-MOST-BARS.false)) in
+    take_more_set s.bars s.standing b (omega (arith, s.few.0, c.if-self-ge-MOST_BARS.false)) in
     let On : List Bar → Type 0 = Barring s.cells in
     let barring = subst On (sym e) (each_push no_bar (OnCells s.cells) bs b s.barring (pos, c.if-from-to.false, omega (arith, c.if-to-self.false))) in
-    (s.foil, (s.piece, (s.kinds, (s.room, (s.placed, (s.rising, (s.latest, ((length-set s.bars s.standing b ∙ s.few.0, omega (arith, c.if-self-ge-MOST-BARS.false)), (barring, tt)))))))))
+    record {
+      foil = s.foil;
+      piece = s.piece;
+      kinds = s.kinds;
+      room = s.room;
+      placed = s.placed;
+      rising = s.rising;
+      latest = s.latest;
+      few = (length-set s.bars s.standing b ∙ s.few.0, omega (arith, c.if-self-ge-MOST_BARS.false));
+      barring = barring;
+    }
 
 pub returns : goal.returns
 returns c =
     let s = c.args.self.now in
     let b : Bar = record { from = c.args.from; to = c.args.to } in
     let log : RollLog = roll_log s in
-    let few : s.standing < 64 = omega (arith, c.if-self-ge-MOST-BARS.false) in
+    let few : s.standing < 64 = omega (arith, c.if-self-ge-MOST_BARS.false) in
     let n : length (take s.standing s.bars) ≡ s.standing = length-take-le s.standing s.bars (omega (arith, s.few.0)) in
     let e : take (s.standing + 1) (set s.bars s.standing b) ≡ take s.standing s.bars ++ b ∷ [] =
     take_more_set s.bars s.standing b (omega (arith, s.few.0)) in

@@ -9,8 +9,8 @@ use Rattle.roll.specs.Lent.{Nexts, recorded}
 use Rattle.roll.proofs.Nexts.{nexts_push}
 use Rattle.roll.proofs.held.Roll.reading.Goals as goal
 
-pub invariant-of-self : goal.invariant-of-self
-invariant-of-self c =
+pub invariant_of-self : goal.invariant_of-self
+invariant_of-self c =
     let s = c.args.self.now in
     let rs : List Reading = recorded s.places in
     let r : Reading = record { parameter = c.args.parameter; position = c.args.position; value = c.args.value } in
@@ -29,4 +29,14 @@ invariant-of-self c =
     let placed = subst In (sym e) (each_push blank (OnRoll s.cells s.parameters) rs r s.placed (low, high, on)) in
     let rising = subst Rising (sym e) (rising_push rs r s.rising past_all) in
     let latest = subst Next (sym e) (nexts_push s.next rs r (low, few) s.latest) in
-    (s.foil, (s.piece, (s.kinds, ((omega (arith, c.push.ensures.used, u, c.if-self.false), omega (arith, c.push.ensures.used, c.if-self-ge-MOST-READINGS.false)), (placed, (rising, (latest, (s.few, (s.barring, tt)))))))))
+    record {
+      foil = s.foil;
+      piece = s.piece;
+      kinds = s.kinds;
+      room = (omega (arith, c.push.ensures.used, u, c.if-self.false), omega (arith, c.push.ensures.used, c.if-self-ge-MOST_READINGS.false));
+      placed = placed;
+      rising = rising;
+      latest = latest;
+      few = s.few;
+      barring = s.barring;
+    }

@@ -15,15 +15,16 @@ use Rattle.roll.specs.Lent.{Nexts, recorded}
 use Rattle.roll.specs.Rolls.{roll_log}
 use Rattle.roll.proofs.Nexts.{nexts_removed}
 use Rattle.roll.proofs.held.Roll.withdraw.Goals as goal
+use Rattle.roll.proofs.held.Roll.withdraw.Goals.{After-remove}
 
-pub returns-in-default : goal.returns-in-default
-returns-in-default c =
+pub returns-in_default : goal.returns-in_default
+returns-in_default c =
     let s = c.args.self.now in
     let p = c.args.parameter in
     let rs : List Reading = recorded s.places in
     let q : c.readings-readings.result.now ≡ rs = c.readings-readings.ensures in
     let Out : List Reading → Type 0 = λ xs. Bare xs p 0 (length xs) in
-    let e : is_some (latest rs p) ≡ false = ap is_some (latest_none rs p (subst Out q c.in-default.ensures)) in
+    let e : is_some (latest rs p) ≡ false = ap is_some (latest_none rs p (subst Out q c.in_default.ensures)) in
     let low : 1 ≤ p = c.if-parameter-lt1.false in
     let high : p ≤ s.parameters = c.if-parameter-self.false in
     let d : refused 8 [] ≡ decide (withdraw_checks (roll_log s) p) = grind (arith, nat_tests) in
@@ -38,13 +39,13 @@ beyond-next-requires c =
     let o = each_take blank (OnRoll s.cells s.parameters) c.readings-readings.result.now (c.in-Some.place - 0) h k l in
     (o.0, omega (arith, o.1, s.kinds.1), omega (arith, o.2, s.foil.1))
 
-last : (c : goal.After-remove) → Last (recorded c.args.self.now.places) c.args.parameter c.in-Some.place
+last : (c : After-remove) → Last (recorded c.args.self.now.places) c.args.parameter c.in-Some.place
 last c =
     let At : List Reading → Type 0 = λ xs. Last xs c.args.parameter c.in-Some.place in
     subst At c.readings-readings.ensures c.in-Some.ensures
 
-pub invariant-of-self : goal.invariant-of-self
-invariant-of-self c =
+pub invariant_of-self : goal.invariant_of-self
+invariant_of-self c =
     let s = c.args.self.now in
     let p = c.args.parameter in
     let k = c.in-Some.place in
@@ -54,16 +55,24 @@ invariant-of-self c =
     let e : recorded c.remove.new.self ≡ remove rs k = c.remove.ensures.after in
     let many = c.remove.ensures.unused.many in
     let z : k - 0 ≡ k = omega arith in
-    let n : c.beyond_next.result ≡ beyond (take k rs) p = c.beyond_next.ensures ∙ ap (λ x. beyond (take x c.readings-readings.result.now) p) z ∙ ap (λ xs. beyond (take k xs) p) c.readings-readings.ensures in
+    let n : c.beyond-next.result ≡ beyond (take k rs) p = c.beyond-next.ensures ∙ ap (λ x. beyond (take x c.readings-readings.result.now) p) z ∙ ap (λ xs. beyond (take k xs) p) c.readings-readings.ensures in
     let In : List Reading → Type 0 = Placed s.cells s.parameters in
-    let Next : List Reading → Type 0 = Nexts (set s.next (p - 1) c.beyond_next.result) in
+    let Next : List Reading → Type 0 = Nexts (set s.next (p - 1) c.beyond-next.result) in
     let To : ℕ → Type 0 = λ v. Nexts (set s.next (p - 1) v) (remove rs k) in
     let placed = subst In (sym e) (each_removed blank (OnRoll s.cells s.parameters) rs k w s.placed) in
     let rising = subst Rising (sym e) (rising_removed rs k w s.rising) in
-    let latest = subst Next (sym e) (subst To (sym n) (nexts_removed s.next rs p k (c.if-parameter-lt1.false, few) s.latest (last c))) in (
-      s.foil,
-      (s.piece, (s.kinds, ((omega (arith, c.remove.ensures.used, s.room.0), omega (arith, c.remove.ensures.used, s.room.1)), (placed, (rising, (latest, (s.few, (s.barring, tt)))))))),
-    )
+    let latest = subst Next (sym e) (subst To (sym n) (nexts_removed s.next rs p k (c.if-parameter-lt1.false, few) s.latest (last c))) in
+    record {
+      foil = s.foil;
+      piece = s.piece;
+      kinds = s.kinds;
+      room = (omega (arith, c.remove.ensures.used, s.room.0), omega (arith, c.remove.ensures.used, s.room.1));
+      placed = placed;
+      rising = rising;
+      latest = latest;
+      few = s.few;
+      barring = s.barring;
+    }
 
 pub returns : goal.returns
 returns c =

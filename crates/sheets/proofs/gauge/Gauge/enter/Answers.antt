@@ -5,8 +5,8 @@ use Rattle.sheets.specs.Standing.{outlier_by}
 use Rattle.model.proofs.Outliers.{bit_small, outliers_few, enters}
 use Rattle.sheets.proofs.gauge.Gauge.enter.Goals as goal
 
-pub overflow-add-self : goal.overflow-add-self
-overflow-add-self c =
+pub overflow_add-self : goal.overflow_add-self
+overflow_add-self c =
     let s = c.args.self.now in
     let f : ℕ → Bool = outlier_by c.args.readings.now (plain c.args.limits) c.args.parameter in
     let m : c.weight.result ≡ bit (f s.entering.cell) = cc in

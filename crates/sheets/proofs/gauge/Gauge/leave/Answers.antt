@@ -5,8 +5,8 @@ use Rattle.sheets.specs.Standing.{outlier_by}
 use Rattle.model.proofs.Outliers.{leaves}
 use Rattle.sheets.proofs.gauge.Gauge.leave.Goals as goal
 
-pub overflow-sub-self : goal.overflow-sub-self
-overflow-sub-self c =
+pub overflow_sub-self : goal.overflow_sub-self
+overflow_sub-self c =
     let s = c.args.self.now in
     let h = c.requires.gauged in
     let f : ℕ → Bool = outlier_by c.args.readings.now (plain c.args.limits) c.args.parameter in

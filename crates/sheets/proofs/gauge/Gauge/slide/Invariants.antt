@@ -3,4 +3,4 @@ use Rattle.sheets.specs.Standing.{Gauged, Shifted}
 use Rattle.sheets.proofs.gauge.Gauge.slide.Given as goal
 
 abbrev pub invariant-loop-i : goal.invariant-loop-i
-invariant-loop-i l = Gauged l.readings (plain l.limits) l.parameter l.self × Shifted l.initial.self l.self l.-i l.-i
+invariant-loop-i l = Gauged l.readings (plain l.limits) l.parameter l.self × Shifted l.initial.self l.self l._i l._i

@@ -15,16 +15,16 @@ slide-requires c =
     let over = kept c.args.self.now.window c.args.self.now.over in
     record { over = over; room = omega (arith, over.long, over.short, c.args.self.now.end) }
 
-pub invariant-of-self : goal.invariant-of-self
-invariant-of-self c = (c.args.self.now.over, (omega arith, (omega (arith, c.args.self.now.end), tt)))
+pub invariant_of-self : goal.invariant_of-self
+invariant_of-self c = record { over = c.args.self.now.over; reached = omega arith; end = omega (arith, c.args.self.now.end) }
 
-pub invariant-of-self-2 : goal.invariant-of-self-2
-invariant-of-self-2 c =
+pub invariant_of-self-2 : goal.invariant_of-self-2
+invariant_of-self-2 c =
     let s = c.args.self.now in
     let size = c.slide.ensures.same.size in
     let cells : c.slide.new.self.size.cells ≡ s.window.size.cells = ap (λ z. z.cells) size in
     let sheet : c.slide.new.self.size.sheet ≡ s.window.size.sheet = ap (λ z. z.sheet) size in
-    (∣ c.slide.ensures.over ∣₁, (omega arith, (omega (arith, c.slide.ensures.moved, s.end), tt)))
+    record { over = ∣ c.slide.ensures.over ∣₁; reached = omega arith; end = omega (arith, c.slide.ensures.moved, s.end) }
 
 pub sheet-requires : goal.sheet-requires
 sheet-requires c =

@@ -11,7 +11,7 @@ new-requires c =
     complete (log_of c.args.roll.now c.args.recipe.now)
     (sym (ap (first_without rows 1) c.size.ensures.parameters) ∙ sym c.first_without.ensures ∙ c.in-None.is)
 
-pub invariant-of-result : goal.invariant-of-result
-invariant-of-result c =
+pub invariant_of-result : goal.invariant_of-result
+invariant_of-result c =
     let sheet : c.new.result.size.sheet ≡ c.args.roll.now.sheet = ap (λ log. log.roll.sheet) c.new.ensures.sees in
-    (∣ c.new.ensures.over ∣₁, (omega arith, (omega (arith, c.new.ensures.end), tt)))
+    record { over = ∣ c.new.ensures.over ∣₁; reached = omega arith; end = omega (arith, c.new.ensures.end) }

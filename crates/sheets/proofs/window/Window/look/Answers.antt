@@ -6,7 +6,7 @@ use Rattle.sheets.specs.Windows.{seen}
 use Rattle.sheets.proofs.Crossing.{twice}
 use Rattle.sheets.proofs.Looking.{good_is}
 use Rattle.sheets.proofs.window.Window.look.Goals as goal
-use Rattle.sheets.proofs.window.Window.look.Goals.{Joined-excess-eq0, at·returns, then-excess-eq0, else-excess-eq0}
+use Rattle.sheets.proofs.window.Window.look.Goals.{Joined-excess-eq0, at-returns, then-excess-eq0, else-excess-eq0}
 
 found : (c : Joined-excess-eq0) (n : ℕ) → c.if-excess-eq0.good ≡ good (seen c.args.self.now n) c.args.self.now.end
 found c n =
@@ -17,15 +17,15 @@ found c n =
     let many : w.end + 1 - (w.end + 1 - w.size.sheet) ≡ w.size.sheet = omega (arith, c.requires.over.low) in
     elim c.if-excess-eq0.branch [
       | then-excess-eq0 v ↦ (let z : eqb (excess (seen w n) w.end w.size.parameters) 0 ≡ true = eq-eqb _ 0 (sym e ∙ v.if-excess-eq0.true) in
-          v.good_is ∙ ap not v.crossed.ensures ∙ twice (free _) ∙ ap free many ∙ sym (rule ∙ ap (λ t. t && free w.size.sheet) z))
+          v.good-is ∙ ap not v.crossed.ensures ∙ twice (free _) ∙ ap free many ∙ sym (rule ∙ ap (λ t. t && free w.size.sheet) z))
       | else-excess-eq0 v ↦ (let z : eqb (excess (seen w n) w.end w.size.parameters) 0 ≡ false = ne_eqb _ 0 (λ q. v.if-excess-eq0.false (e ∙ q)) in
-          v.good_is ∙ ne_eqb c.excess-excess.result 0 v.if-excess-eq0.false ∙ sym (rule ∙ ap (λ t. t && free w.size.sheet) z))
+          v.good-is ∙ ne_eqb c.excess-excess.result 0 v.if-excess-eq0.false ∙ sym (rule ∙ ap (λ t. t && free w.size.sheet) z))
     ]
 
 pub returns : goal.returns
 returns c =
     let w = c.args.self.now in
-    let f = found (at·returns c).Joined-excess-eq0 in
+    let f = found (at-returns c).Joined-excess-eq0 in
     record {
       good = f;
       stride = λ n.
