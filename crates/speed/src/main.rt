@@ -86,7 +86,7 @@ fn run(rt: &HostRuntime, cells: u32, timed: bool) -> anyhow::Result<()> {
 fn main(rt: HostRuntime) -> anyhow::Result<()> {
     let mut timed = false;
     for arg in env::args(&rt)? {
-        if arg == "times" {
+        if arg.as_str() == "times" {
             timed = true;
         }
     }

@@ -13,6 +13,6 @@ small m h =
 
 pub returns : goal.returns
 returns c = record {
-  value = λ n few h m. omega (arith, c.saturating-add.ensures, small c.args.mark m);
-  held = λ n few h m. omega (arith, c.saturating-add.ensures, small c.args.mark m);
+  value = λ n few h m. omega (arith, c.saturating_add.ensures, small c.args.mark m);
+  held = λ n few h m. omega (arith, c.saturating_add.ensures, small c.args.mark m);
 }
