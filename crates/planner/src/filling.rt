@@ -35,7 +35,7 @@ fn better<C: Criterion>(
     kept: WorkPlace<C::Total>,
     taken: WorkPlace<C::Total>,
 ) -> WorkPlace<C::Total>
-    ensures { ((result ≡ taken) × Beats (rules criterion.now).rank taken kept) ⊎ ((result ≡ kept) × (Beats (rules criterion.now).rank taken kept → ⊥)) }
+    ensures { ((result ≡ taken) × Beats (C.rules criterion.now).rank taken kept) ⊎ ((result ≡ kept) × (Beats (C.rules criterion.now).rank taken kept → ⊥)) }
 {
     if taken.sheets > kept.sheets {
         return taken;
@@ -60,8 +60,8 @@ fn extended<C: Criterion>(
     requires { before.sheets < most_marks }
     ensures sheets { result.sheets ≡ before.sheets + 1 }
     ensures last { result.last ≡ end }
-    ensures sum { held criterion.now before.sheets before.total → Asked sheet counts.now → result.total ≡ (rules criterion.now).add before.total ((rules criterion.now).mark sheet counts.now) }
-    ensures held { held criterion.now before.sheets before.total → Asked sheet counts.now → held criterion.now result.sheets result.total }
+    ensures sum { C.held criterion.now before.sheets before.total → Asked sheet counts.now → result.total ≡ (C.rules criterion.now).add before.total ((C.rules criterion.now).mark sheet counts.now) }
+    ensures held { C.held criterion.now before.sheets before.total → Asked sheet counts.now → C.held criterion.now result.sheets result.total }
 {
     let mark = criterion.mark(sheet, counts);
     WorkPlace {
@@ -79,7 +79,7 @@ pub(crate) fn fill<C: Criterion>(
     work: &mut [WorkPlace<C::Total>],
 ) -> Result<(), Refusal>
     ensures answer { decision result ≡ decide (fill_checks (log_of roll.now recipe.now) (length work.old)) }
-    ensures table { MatchResult result (λ _. Filled (log_of roll.now recipe.now) (rules criterion.now) work.old work.new) (λ _. work.new ≡ work.old) }
+    ensures table { MatchResult result (λ _. Filled (log_of roll.now recipe.now) (C.rules criterion.now) work.old work.new) (λ _. work.new ≡ work.old) }
 {
     let mut scan = Scan::over(roll, recipe)?;
     let size = roll.size();

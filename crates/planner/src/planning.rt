@@ -87,9 +87,9 @@ pub fn plan<C: Criterion>(
     work: &mut [WorkPlace<C::Total>],
     ends: &mut [u32],
 ) -> Result<Planned<C::Total>, Refusal>
-    ensures answer { Decided (log_of roll.now recipe.now) (rules criterion.now) (length work.old) (length ends.old) (decision result) }
-    ensures value { MatchResult result (λ p. Answered (log_of roll.now recipe.now) (rules criterion.now) ends.old ends.new p) (λ _. ends.new ≡ ends.old) }
-    ensures table { TableAfter (log_of roll.now recipe.now) (rules criterion.now) work.old work.new (fills (decision result)) }
+    ensures answer { Decided (log_of roll.now recipe.now) (C.rules criterion.now) (length work.old) (length ends.old) (decision result) }
+    ensures value { MatchResult result (λ p. Answered (log_of roll.now recipe.now) (C.rules criterion.now) ends.old ends.new p) (λ _. ends.new ≡ ends.old) }
+    ensures table { TableAfter (log_of roll.now recipe.now) (C.rules criterion.now) work.old work.new (fills (decision result)) }
     ensures counted { IfOk result (λ p. (sheets looks : ℕ) → Counted (log_of roll.now recipe.now) sheets looks → p.sheets ≡ sheets) }
 {
     filling::fill(roll, recipe, criterion, work)?;

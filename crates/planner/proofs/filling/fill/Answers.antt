@@ -17,7 +17,7 @@ use Rattle.sheets.specs.Logs.{log_of}
 use Rattle.sheets.proofs.Telling.{told_none, told_sheet}
 use Rattle.planner.proofs.Tables.{Below, Held, below_next, below_one, filled, held_none, held_skip, held_step, read_held}
 use Rattle.planner.proofs.filling.fill.Goals as goal
-use Rattle.planner.proofs.filling.fill.Goals.{in-Some, in_default, in_default·2}
+use Rattle.planner.proofs.filling.fill.Goals.{in-Some, in_default, in_default-2}
 
 pub loop-j-init : goal.loop-j-init
 loop-j-init g c =
@@ -82,7 +82,7 @@ loop-j-preserved g c =
     let At : ℕ → Type 0 = λ n. Held log r H n u in
     let before : Held log r H (j - foil.sheet) u = subst At far (read_held log r H was work j back u below (omega arith) (omega arith) c.index-work-behind.is) in
     let Place : WorkPlace _ → Type 0 = Held log r H j in
-    let held : Held log r H j c.match-next-end.work = elim c.match-next-end.branch [
+    let held : Held log r H j c.match-next_end.work = elim c.match-next_end.branch [
       | in-Some w ↦ (let told = told_sheet log j w.in-Some.sheet (w.in-Some.ensures.value log sees ∙ ap (sheet_at log) here) in
           let fine : good log j ≡ true = sym told.1 ∙ w.if-sheet.true in
           let l : c.size-size.result.sheet ≡ log.roll.sheet = c.size-size.ensures.sheet in
@@ -92,11 +92,11 @@ loop-j-preserved g c =
           subst Place (sym w.work-is)
           (held_step log r sure law H j v u w.extended-taken.result w.better.result one fine last before w.extended-taken.ensures.sheets sum w.extended-taken.ensures.last
           (w.extended-taken.ensures.held before.held ask) w.better.ensures))
-      | in_default·2 w ↦ (let told = told_sheet log j w.in-Some.sheet (w.in-Some.ensures.value log sees ∙ ap (sheet_at log) here) in
+      | in_default-2 w ↦ (let told = told_sheet log j w.in-Some.sheet (w.in-Some.ensures.value log sees ∙ ap (sheet_at log) here) in
           subst Place (sym w.work-is) (held_skip log r sure law H j v (λ q. both_ways _ (sym q ∙ sym told.1 ∙ w.if-sheet.false) refl) last))
       | in_default w ↦ subst Place (sym w.work-is) (held_skip log r sure law H j v (told_none log j nothing (w.in_default.ensures.value log sees ∙ ap (sheet_at log) here)) last)
     ] in
-    (c.next-end.ensures.sees log sees, omega (arith, c.next-end.ensures.moved log sees), below_next log r H was work j c.match-next-end.work below (omega arith) held)
+    (c.next_end.ensures.sees log sees, omega (arith, c.next_end.ensures.moved log sees), below_next log r H was work j c.match-next_end.work below (omega arith) held)
 
 pub returns : goal.returns
 returns g c =
