@@ -1,10 +1,10 @@
 -- A choice in rising order, and the same last end first.
-use Rattle.std.proofs.Common.{◌≡◌, ℕ, ◌+◌, ◌-◌, ◌<◌, ◌≤◌, true, ◌⊎◌, List, [], ◌∷◌, ◌++◌, reverse, length, get_or, drop, Less, Equal, sym, refl, ap, ◌∙◌, subst, inl, inr, arith}
+use Rattle.std.proofs.Common.{◌≡◌, ℕ, ◌+◌, ◌-◌, ◌<◌, ◌≤◌, true, ◌⊎◌, List, [], ◌∷◌, ◌++◌, reverse, length, get_or, drop, sym, refl, ap, ◌∙◌, subst, inl, inr, arith}
 use mathlib.Core.List.{reverse-cons}
 use Rattle.std.proofs.lemmas.List.{reverse-reverse, length-reverse, length_push, get_or_push, get_or_append_left, drop-append-le, drop_all, same_from_push}
 use Rattle.std.proofs.lemmas.Bool.{cases_lt}
 use Rattle.model.specs.Log.{Log}
-use Rattle.model.specs.Choices.{From, Choice, spacing}
+use Rattle.model.specs.Choices.{From, spacing}
 use Rattle.model.specs.Sheets.{good}
 use Rattle.criteria.specs.Law.{Rules}
 use Rattle.choices.specs.Best.{Best, Before, ChoiceTo, Sooner, UpTo}

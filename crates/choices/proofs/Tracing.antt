@@ -1,5 +1,5 @@
 -- The ends of the best choice, as they are written from the last backwards.
-use Rattle.std.proofs.Common.{◌≡◌, ℕ, ◌+◌, ◌-◌, ◌<◌, ◌≤◌, true, List, [], ◌∷◌, ◌++◌, length, get_or, take, drop, set, sym, refl, ap, ◌∙◌, subst, arith, length-set}
+use Rattle.std.proofs.Common.{◌≡◌, ℕ, ◌+◌, ◌-◌, ◌<◌, ◌≤◌, true, List, [], ◌∷◌, ◌++◌, length, get_or, take, drop, set, sym, ap, ◌∙◌, subst, arith, length-set}
 use Rattle.std.proofs.lemmas.List.{take_all, take_at, take_more, length-take-le, drop_all, drop_more, drop-set, drop_at, get_or-take}
 use Rattle.model.specs.Log.{Log}
 use Rattle.model.specs.Choices.{spacing}

@@ -1,5 +1,5 @@
 -- All worked examples, as tests that compute over the rules: those of plans behind those of cells, sheets, count and criteria.
-use Rattle.std.specs.Prelude.{ℕ, Bool, List, [], ◌∷◌, ◌++◌, ◌==◌}
+use Rattle.std.specs.Prelude.{Bool, List, [], ◌∷◌, ◌++◌, ◌==◌}
 use Rattle.model.specs.Choices.{Choice}
 use Rattle.model.specs.Examples.{R, plain}
 use Rattle.model.specs.Log.{Log}

@@ -4,7 +4,7 @@ use Rattle.std.proofs.lemmas.Bool.{ltb-false}
 use Rattle.std.proofs.lemmas.Bool.Decides.{nat_tests}
 use Rattle.model.specs.Counting.{lacking}
 use Rattle.model.specs.Log.{Log}
-use Rattle.model.specs.Refusals.{Decision, accepted, refused, decide}
+use Rattle.model.specs.Refusals.{accepted, refused, decide}
 use Rattle.planner.specs.Planning.{fill_checks, plan_checks, room_check}
 
 later : (a b d : Bool) (k m n : ℕ) (ks ms ns : List ℕ) → accepted ≡ cond a (refused k ks) (cond b (refused m ms) accepted) →

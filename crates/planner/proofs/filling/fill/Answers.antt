@@ -1,9 +1,9 @@
-use Rattle.std.proofs.Common.{◌≡◌, ℕ, ◌+◌, ◌-◌, ◌<◌, ◌≤◌, min, true, false, length, set, is_some, Some, None, sym, refl, ap, ◌∙◌, subst, arith, length-set, rules}
+use Rattle.std.proofs.Common.{◌≡◌, ℕ, ◌+◌, ◌-◌, ◌<◌, ◌≤◌, true, false, length, set, is_some, None, sym, refl, ap, ◌∙◌, subst, arith, length-set, rules}
 use Rattle.std.proofs.lemmas.Bool.{both_ways}
 use Rattle.std.proofs.lemmas.Bool.Decides.{nat_tests}
 use Rattle.model.specs.Counting.{lacking}
 use Rattle.model.specs.Log.{Log}
-use Rattle.model.specs.Sheets.{counts, good}
+use Rattle.model.specs.Sheets.{good}
 use Rattle.model.proofs.Lacking.{none_refused}
 use Rattle.criteria.specs.Law.{Asked}
 use Rattle.choices.specs.declared.work.WorkPlace.{WorkPlace}

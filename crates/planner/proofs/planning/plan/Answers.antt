@@ -1,22 +1,15 @@
-use Rattle.std.proofs.Common.{◌≡◌, ℕ, ◌-◌, ◌<◌, ◌≤◌, Bool, true, false, eqb, ltb, List, [], ◌∷◌, length, get_or, take, set, sym, refl, ap, ◌∙◌, subst, arith, rules}
+use Rattle.std.proofs.Common.{◌≡◌, ℕ, ◌-◌, ◌<◌, Bool, List, [], ◌∷◌, length, get_or, take, set, sym, refl, ap, ◌∙◌, subst, arith, rules}
 use Rattle.std.proofs.lemmas.List.{get_or_default, length-take-le}
 use Rattle.std.proofs.lemmas.Result.{err_from_is_err_and}
-use Rattle.std.proofs.lemmas.Bool.{cond-true, cond-false, le-ltb, lt-ltb}
-use Rattle.std.proofs.lemmas.Bool.Decides.{nat_tests}
 use Rattle.model.specs.Choices.{Choice, Greatest}
-use Rattle.model.specs.Counting.{lacking}
 use Rattle.model.specs.Log.{Log}
 use Rattle.model.specs.Refusals.{accepted, refused, decide, number, told}
-use Rattle.model.specs.Sheets.{good}
-use Rattle.model.proofs.Greedy.{good_fits}
 use Rattle.choices.specs.declared.work.WorkPlace.{WorkPlace}
 use Rattle.choices.specs.Best.{Best}
 use Rattle.choices.specs.Table.{Tells, blank}
-use Rattle.choices.proofs.Backwards.{Lawful, Sound}
+use Rattle.choices.proofs.Backwards.{Lawful}
 use Rattle.choices.proofs.Bests.{best_greatest, best_of_all, best_some, greatest_once, sound}
-use Rattle.choices.proofs.Forwards.{task}
-use Rattle.choices.proofs.Tables.{tells_few}
-use Rattle.choices.proofs.Tracing.{Trace, trace_all, trace_more, trace_none, traced_last}
+use Rattle.choices.proofs.Tracing.{Trace, trace_all, trace_more, trace_none}
 use Rattle.sheets.specs.Logs.{log_of}
 use Rattle.planner.specs.Planning.{TableAfter, plan_checks, room_check}
 use Rattle.planner.proofs.Checks.{decided_by_ends, decided_by_table, enough_room, for_ends, not_for_ends}
