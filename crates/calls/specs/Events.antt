@@ -1,7 +1,7 @@
 -- A list of steps as events, and the log after each.
 use Rattle.std.specs.Prelude.{ℕ, List, [], ◌∷◌, ◌++◌, map, vec_items}
 use Rattle.model.specs.Log.{Log, RecipeLog, RollLog}
-use Rattle.model.specs.Recipes.{after_limits, begun, ended, fresh}
+use Rattle.model.specs.Recipes.{after_limits, fresh}
 use Rattle.model.specs.Recording.{after_bar, after_new, after_reading, after_withdraw, idle}
 use Rattle.calls.specs.declared.call.Call.{Call}
 use Rattle.calls.specs.declared.call.Call.TheVariants.{Record, Limits, Count, Plan}
@@ -47,16 +47,25 @@ after_call log (Limits i low high share) = with_recipe log (after_limits log.rec
 after_call log Count = log
 after_call log (Plan c work rooms) = log
 
-abbrev pub after : {C : Type 0} → Log → Event C → Log
-after log begins = with_recipe log (begun log.recipe)
-after log (made c) = after_call log c
-after log finishes = with_recipe log (ended log.recipe)
+-- the log, and the copy of the recipe that was laid aside last
+pub record Course : Type 0 where
+  pub log : Log
+  pub aside : RecipeLog
 
--- the log after a list of events
-abbrev pub logged : {C : Type 0} → Log → List (Event C) → Log
-logged log [] = log
-logged log (e ∷ es) = logged (after log e) es
+-- a trial's beginning lays a copy of the recipe aside, and its end brings that copy back
+abbrev pub after : {C : Type 0} → Course → Event C → Course
+after k begins = record { log = k.log; aside = k.log.recipe }
+after k (made c) = record { log = after_call k.log c; aside = k.aside }
+after k finishes = record { log = with_recipe k.log k.aside; aside = k.aside }
 
--- the log at the start: the roll set by new, and a fresh recipe
-abbrev pub started : ℕ → ℕ → ℕ → ℕ → Log
-started places cells sheet parameters = record { roll = after_new (idle places) cells sheet parameters; recipe = fresh }
+-- how they stand after a list of events
+abbrev pub course : {C : Type 0} → Course → List (Event C) → Course
+course k [] = k
+course k (e ∷ es) = course (after k e) es
+
+-- at the start the roll is set by new, and the recipe is fresh
+abbrev pub started : ℕ → ℕ → ℕ → ℕ → Course
+started places cells sheet parameters = record {
+  log = record { roll = after_new (idle places) cells sheet parameters; recipe = fresh };
+  aside = fresh;
+}

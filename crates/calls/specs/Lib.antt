@@ -1,4 +1,5 @@
 pub mod Answers
+pub mod Courses
 pub mod Events
 pub mod OneOf
 pub mod Replay

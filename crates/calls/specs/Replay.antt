@@ -9,7 +9,7 @@ use Rattle.calls.specs.declared.answer.Answer.TheVariants.{Accepted}
 use Rattle.calls.specs.declared.unplayed.Unplayed.{Unplayed}
 use Rattle.calls.specs.declared.unplayed.Unplayed.TheVariants.{NewRefused, OutOfMemory}
 use Rattle.calls.specs.Answers.{Answers}
-use Rattle.calls.specs.Events.{Event, begins, made, finishes, logged, started}
+use Rattle.calls.specs.Events.{Course, Event, begins, made, finishes, course, started}
 
 -- a trial's beginning and its end are accepted
 abbrev pub Right : {C M T : Type 0} → (C → Rules M T) → Log → Event C → Answer T → Type 0
@@ -18,16 +18,16 @@ Right rules log (made c) a = Answers rules log c a
 Right rules log finishes a = a ≡ Accepted
 
 -- an answer for each event, right by the log that the events before it have made
-pub record Replayed {C M T : Type 0} (rules : C → Rules M T) (log : Log) (es : List (Event C)) (xs : List (Answer T)) : Type 0 where
+pub record Replayed {C M T : Type 0} (rules : C → Rules M T) (from : Course) (es : List (Event C)) (xs : List (Answer T)) : Type 0 where
   pub many : length xs ≡ length es
-  pub each : (k : ℕ) → k < length es → Right rules (logged log (take k es)) (slice_index_or es k begins) (slice_index_or xs k Accepted)
+  pub each : (k : ℕ) → k < length es → Right rules (course from (take k es)).log (slice_index_or es k begins) (slice_index_or xs k Accepted)
 
--- these events take the log from one to the other, and their answers stand behind those before
-pub record Ran {C M T : Type 0} (rules : C → Rules M T) (from to : Log) (es : List (Event C)) (before after : List (Answer T)) : Type 0 where
+-- these events lead from one course to the other, and their answers stand behind those before
+pub record Ran {C M T : Type 0} (rules : C → Rules M T) (from to : Course) (es : List (Event C)) (before after : List (Answer T)) : Type 0 where
   pub answers : List (Answer T)
   pub behind : after ≡ before ++ answers
   pub right : Replayed rules from es answers
-  pub log : logged from es ≡ to
+  pub leads : course from es ≡ to
 
 -- a replay that did not come to its end: new was refused, or memory was wanting
 abbrev pub Stopped : ℕ → ℕ → ℕ → Unplayed → Type 0

@@ -4,6 +4,7 @@ ghost use Rattle.calls.specs.Answers.{Answers, By, Counts, Plans, recording_chec
 ghost use Rattle.calls.specs.Events.{after_call, recorded};
 ghost use Rattle.model.specs.Counting.{count_checks};
 ghost use Rattle.model.specs.Refusals.{decide, decision};
+ghost use Rattle.recipe.specs.Tables.{aside_log};
 ghost use Rattle.roll.specs.Rolls.{roll_log};
 ghost use Rattle.sheets.specs.Logs.{log_of};
 
@@ -51,7 +52,7 @@ fn planned<C: Criterion>(
     work: usize,
     ends: usize,
 ) -> Result<Answer<C::Total>, AllocError>
-    ensures { IfOk result (λ a. Plans (log_of roll.now recipe.now) (rules criterion.now) work ends a) }
+    ensures { IfOk result (λ a. Plans (log_of roll.now recipe.now) (C.rules criterion.now) work ends a) }
 {
     let mut table = table(heap, criterion.none(), work)?;
     let mut places = vec![in heap; 0; ends]?;
@@ -78,6 +79,7 @@ pub(crate) fn make<C: Criterion>(
 ) -> Result<Answer<C::Total>, AllocError>
     ensures answer { IfOk result (λ a. Answers C.Criterion.rules (log_of roll.old recipe.old) call.now a) }
     ensures after { OnOk result (log_of roll.new recipe.new ≡ after_call (log_of roll.old recipe.old) call.now) }
+    ensures laid { aside_log recipe.new ≡ aside_log recipe.old }
 {
     match call {
         Call::Record(recording) => Ok(bare(record(roll, *recording))),
@@ -105,6 +107,7 @@ pub(crate) fn make_in_trial<C: Criterion>(
 ) -> Result<Answer<C::Total>, AllocError>
     ensures answer { IfOk result (λ a. Answers C.Criterion.rules (log_of roll.old trial.old.recipe.now) call.now a) }
     ensures after { OnOk result (log_of roll.new trial.new.recipe.now ≡ after_call (log_of roll.old trial.old.recipe.now) call.now) }
+    ensures laid { aside_log trial.new.recipe.now ≡ aside_log trial.old.recipe.now }
     ensures lent { trial.new.recipe.ghost_name ≡ trial.old.recipe.ghost_name }
 {
     match call {

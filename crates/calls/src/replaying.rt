@@ -1,8 +1,8 @@
 // Replaying a list of steps from the start.
 ghost use Rattle.std.specs.Prelude.{◌≡◌, MatchResult, OnOk};
+ghost use Rattle.calls.specs.Courses.{course_of};
 ghost use Rattle.calls.specs.Events.{events, events_of, trial_events};
 ghost use Rattle.calls.specs.Replay.{Ran, Stopped, Whole};
-ghost use Rattle.sheets.specs.Logs.{log_of};
 
 use crate::answer::Answer;
 use crate::call::{Call, Step};
@@ -22,7 +22,7 @@ fn tried<C: Criterion>(
     calls: &[Call<C>],
     answers: &mut Vec<Answer<C::Total>>,
 ) -> Result<(), AllocError>
-    ensures { OnOk result (Ran C.Criterion.rules (log_of roll.old recipe.old) (log_of roll.new recipe.new) (trial_events calls.now) answers.old.items answers.new.items) }
+    ensures { OnOk result (Ran C.Criterion.rules (course_of roll.old recipe.old) (course_of roll.new recipe.new) (trial_events calls.now) answers.old.items answers.new.items) }
 {
     answers.push(Answer::Accepted)?;
     {
@@ -42,7 +42,7 @@ fn take_step<C: Criterion>(
     step: &Step<C>,
     answers: &mut Vec<Answer<C::Total>>,
 ) -> Result<(), AllocError>
-    ensures { OnOk result (Ran C.Criterion.rules (log_of roll.old recipe.old) (log_of roll.new recipe.new) (events_of step.now) answers.old.items answers.new.items) }
+    ensures { OnOk result (Ran C.Criterion.rules (course_of roll.old recipe.old) (course_of roll.new recipe.new) (events_of step.now) answers.old.items answers.new.items) }
 {
     match step {
         Step::Call(call) => {

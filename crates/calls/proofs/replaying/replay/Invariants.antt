@@ -1,9 +1,9 @@
 use Rattle.std.proofs.Common.{[], take, vec_items}
-use Rattle.sheets.specs.Logs.{log_of}
+use Rattle.calls.specs.Courses.{course_of}
 use Rattle.calls.specs.Events.{events}
 use Rattle.calls.specs.Replay.{Ran}
 use Rattle.calls.proofs.replaying.replay.Given as goal
 
 abbrev pub invariant-loop-step : goal.invariant-loop-step
 invariant-loop-step g l =
-    Ran g.C.Criterion.rules (log_of l.initial.roll l.initial.recipe) (log_of l.roll l.recipe) (events (take l.step-index l.steps)) [] (vec_items l.answers)
+    Ran g.C.Criterion.rules (course_of l.initial.roll l.initial.recipe) (course_of l.roll l.recipe) (events (take l.step-index l.steps)) [] (vec_items l.answers)
