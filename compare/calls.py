@@ -2,7 +2,7 @@
 
     python3 compare/calls.py [SCRIPTS [SEED]]
 
-Each script goes to target/bin/foilcalls and to reference/foilcalls.py, and
+Each script goes to crates/foilcalls/out/foilcalls and to reference/foilcalls.py, and
 their answers are compared byte by byte. Ends at the first difference with
 status 1, after all scripts with 0, and with 2 where it cannot begin. A script
 follows from SEED and its index alone. Every second of the first few hundred is
@@ -21,7 +21,7 @@ from dataclasses import dataclass, field
 from pathlib import Path
 
 TOP = Path(__file__).resolve().parent.parent
-PROGRAM = TOP / "target" / "bin" / "foilcalls"
+PROGRAM = TOP / "crates" / "foilcalls" / "out" / "foilcalls"
 REFERENCE = TOP / "reference" / "foilcalls.py"
 SECONDS = 60  # the program has to answer a script within these
 
