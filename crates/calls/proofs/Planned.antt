@@ -2,17 +2,13 @@
 use Rattle.std.proofs.Common.{◌≡◌, ℕ, List, length, take, vec_items, Vec, sym, refl, ap, ◌∙◌, subst}
 use Rattle.std.proofs.lemmas.List.{length-take-le}
 use Rattle.std.specs.declared.alloc.Global.{Global}
-use Rattle.model.specs.Choices.{Choice}
 use Rattle.model.specs.Log.{Log}
 use Rattle.model.specs.Refusals.{Decision, accepted, refused, decide, number, told}
 use Rattle.model.specs.declared.refusal.Refusal.{Refusal}
 use Rattle.criteria.specs.Law.{Rules}
-use Rattle.choices.specs.Best.{Best}
-use Rattle.choices.specs.Totals.{total}
 use Rattle.choices.proofs.Bests.{best_greatest, greatest_once}
 use Rattle.planner.specs.declared.planning.Planned.{Planned}
 use Rattle.planner.specs.Planning.{Answered, Decided, plan_checks}
-use Rattle.calls.specs.declared.answer.Answer.{Answer}
 use Rattle.calls.specs.declared.answer.Answer.TheVariants as answer
 use Rattle.calls.specs.Answers.{By, Names, Plans}
 

@@ -1,6 +1,6 @@
--- The laws of one of two criteria, from theirs.
+-- The laws of one of two criteria, from theirs: lemmas that its laws name; nothing here needs to be believed.
 use Rattle.std.specs.Prelude.{◌≡◌, refl}
-use Rattle.std.specs.declared.cmp.Ordering.TheVariants.{Less, Equal, Greater}
+use Rattle.std.specs.declared.cmp.Ordering.TheVariants.{Less, Equal}
 use Rattle.std.specs.declared.cmp.Ordering.{Ordering}
 use Rattle.std.proofs.Common.{arith}
 use Rattle.std.specs.Ordering.{ordering_reverse}

@@ -1,3 +1,4 @@
+-- Lemmas for the laws of criteria, which name them; no other contract cites them, and nothing here needs to be believed.
 -- Orders: by numbers, by one order and then another, by sums one after the other.
 use Rattle.std.specs.Prelude.{◌≡◌, ℕ, zero, suc, ◌+◌, ◌-◌, ◌<◌, ◌≤◌, List, slice_index, refl}
 use Rattle.std.specs.declared.cmp.Ordering.TheVariants.{Less, Equal, Greater}
