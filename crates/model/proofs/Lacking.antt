@@ -1,23 +1,11 @@
 -- The first parameter without limits.
-use Rattle.std.proofs.Common.{◌≡◌, ℕ, zero, suc, ◌+◌, ◌-◌, ◌<◌, ◌≤◌, true, false, cond, List, is_some, Some, None, Option, sym, refl, ap, ◌∙◌, inl, inr, arith}
+use Rattle.std.proofs.Common.{◌≡◌, ℕ, zero, suc, ◌+◌, ◌<◌, ◌≤◌, true, List, is_some, Some, None, Option, sym, refl, ap, ◌∙◌, inl, inr, arith}
 use Rattle.std.proofs.lemmas.Bool.{cases_Bool, cases_eq, cond-true, cond-false}
 use Rattle.model.specs.declared.row.Row.{Row}
 use Rattle.model.specs.Counting.{Complete, count_checks, lacking}
 use Rattle.model.specs.Log.{Log}
 use Rattle.model.specs.Recipes.{first_without, has_limits, row_of}
 use Rattle.model.specs.Refusals.{accepted, decide}
-
-step : (rows : List Row) (i n : ℕ) → 0 < n → first_without rows i n ≡ cond (has_limits (row_of rows i)) (first_without rows (i + 1) (n - 1)) (Some i)
-step rows i zero h = absurd (omega arith)
-step rows i (suc n) h =
-    let z : suc n - 1 ≡ n = omega arith in
-    ap (λ m. cond (has_limits (row_of rows i)) (first_without rows (i + 1) m) (Some i)) (sym z)
-
-pub without_here : (rows : List Row) (i n : ℕ) → 0 < n → has_limits (row_of rows i) ≡ false → first_without rows i n ≡ Some i
-without_here rows i n h f = step rows i n h ∙ cond-false _ _ _ f
-
-pub without_next : (rows : List Row) (i n : ℕ) → 0 < n → has_limits (row_of rows i) ≡ true → first_without rows i n ≡ first_without rows (i + 1) (n - 1)
-without_next rows i n h f = step rows i n h ∙ cond-true _ _ _ f
 
 pub complete_from : (rows : List Row) (i n : ℕ) → first_without rows i n ≡ None → (j : ℕ) → i ≤ j → j < i + n → has_limits (row_of rows j) ≡ true
 complete_from rows i zero e j l m = absurd (omega arith)

@@ -1,5 +1,5 @@
 -- The latest reading of a parameter: where it stands, and what a reading more or less makes of it.
-use Rattle.std.proofs.Common.{◌≡◌, ℕ, zero, suc, ◌+◌, ◌<◌, Bool, true, false, cond, eqb, ◌⊎◌, List, [], ◌∷◌, ◌++◌, length, take, drop, Some, None, Option, sym, refl, ap, ◌∙◌, inl, inr, arith, length-drop, get_or-drop, drop-cons}
+use Rattle.std.proofs.Common.{◌≡◌, ℕ, zero, suc, ◌+◌, ◌<◌, Bool, true, false, cond, eqb, List, [], ◌∷◌, ◌++◌, length, take, drop, Some, None, Option, sym, refl, ap, ◌∙◌, inl, inr, arith, length-drop, get_or-drop, drop-cons}
 use Rattle.std.proofs.lemmas.List.{take-append-drop}
 use Rattle.std.proofs.lemmas.Bool.Decides.{nat_tests, eqb_tells}
 use Rattle.std.specs.List.{remove}
@@ -93,32 +93,17 @@ latest_before rs i k h =
     h.after (suc k + j) (omega arith, omega (arith, l.1, length-drop (suc k) rs)) (ap (λ r. r.parameter) (sym (get_or-drop (suc k) rs j blank)) ∙ q)) in
     rw (latest_append (take k rs) (drop (suc k) rs) i) (rw none refl)
 
--- where the latest stands, if there is one
-pub finds_last : (rs : List Reading) (i : ℕ) → Bare rs i 0 (length rs) ⊎ ((k : ℕ) × Last rs i k)
-finds_last [] i = inl (λ j h q. omega (arith, h.1))
-finds_last (r ∷ rs) i = elim (finds_last rs i) [
-  | inr f ↦ inr (
-    suc f.0,
-    record {
-      within = omega (arith, f.1.within);
-      own = f.1.own;
-      after = after_suc r rs i f.0 f.1;
-    },
-  )
-  | inl none ↦ (elim (eqb_tells r.parameter i) [
-    | inl p ↦ inr (0, record { within = omega arith; own = p.1; after = after_zero r rs i none })
-    | inr p ↦ inl (bare_cons r rs i p.1 none)
-  ])
-]
+-- the latest stands somewhere
+abbrev pub StandsIn : List Reading → ℕ → Reading → Type 0
+StandsIn rs i s = (k : ℕ) × (k < length rs) × (at rs k ≡ s) × (s.parameter ≡ i)
+
+pub latest_stands : (rs : List Reading) (i : ℕ) (s : Reading) → latest rs i ≡ Some s → StandsIn rs i s
+latest_stands [] i s e = absurd (grind arith)
+latest_stands (r ∷ rs) i s e = by (latest rs i) refl (latest_stands rs i s)
   where
-    after_suc : (r : Reading) (rs : List Reading) (i k : ℕ) → Last rs i k → Bare (r ∷ rs) i (suc k + 1) (length (r ∷ rs))
-    after_suc r rs i k h zero l q = absurd (omega (arith, l.0))
-    after_suc r rs i k h (suc j) l q = h.after j (omega (arith, l.0), omega (arith, l.1)) q
-
-    after_zero : (r : Reading) (rs : List Reading) (i : ℕ) → Bare rs i 0 (length rs) → Bare (r ∷ rs) i (0 + 1) (length (r ∷ rs))
-    after_zero r rs i h zero l q = absurd (omega (arith, l.0))
-    after_zero r rs i h (suc j) l q = h j (omega arith, omega (arith, l.1)) q
-
-    bare_cons : (r : Reading) (rs : List Reading) (i : ℕ) → (r.parameter ≡ i → ⊥) → Bare rs i 0 (length rs) → Bare (r ∷ rs) i 0 (length (r ∷ rs))
-    bare_cons r rs i p h zero l q = p q
-    bare_cons r rs i p h (suc j) l q = h j (omega arith, omega (arith, l.1)) q
+    by : (o : Option Reading) → latest rs i ≡ o → (latest rs i ≡ Some s → StandsIn rs i s) → StandsIn (r ∷ rs) i s
+    by (Some t) q f = let h = f (q ∙ (rw q at e)) in (suc h.0, omega (arith, h.1), h.2, h.3)
+    by None q f = elim (eqb_tells r.parameter i) [
+      | inl p ↦ (let is : r ≡ s = (let here = rw (q, p.0) at e in grind arith) in (0, omega arith, is, ap (λ x. x.parameter) (sym is) ∙ p.1))
+      | inr p ↦ (let other = rw (q, p.0) at e in absurd (grind arith))
+    ]

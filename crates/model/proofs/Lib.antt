@@ -1,4 +1,4 @@
-pub mod Decisions
+pub mod Computed
 pub mod Each
 pub mod Greedy
 pub mod Lacking

@@ -1,10 +1,10 @@
 -- The reading that serves a cell, by its place in the list.
-use Rattle.std.proofs.Common.{◌≡◌, ℕ, zero, suc, ◌+◌, ◌-◌, ◌<◌, ◌≤◌, true, false, cond, eqb, leb, List, [], ◌∷◌, length, drop, Some, None, Option, sym, refl, ap, ◌∙◌, inl, inr, suc-le-suc, arith}
-use Rattle.std.proofs.lemmas.List.{at_drop_more}
+use Rattle.std.proofs.Common.{◌≡◌, ℕ, zero, suc, ◌<◌, ◌≤◌, Bool, true, false, cond, eqb, leb, ltb, List, [], ◌∷◌, length, Some, None, Option, sym, refl, ap, ◌∙◌, inl, inr, suc-le-suc, arith}
 use Rattle.std.proofs.lemmas.Bool.Decides.{nat_tests, eqb_tells}
+use Rattle.std.specs.List.{filter}
 use Rattle.model.specs.declared.reading.Reading.{Reading}
 use Rattle.model.specs.Recorded.{Bare, Rising}
-use Rattle.model.specs.Serving.{away, nearer, serving, at, blank}
+use Rattle.model.specs.Serving.{away, nearer, serving, at}
 
 -- none of parameter i: none serves
 pub serving_none : (rs : List Reading) (i n : ℕ) → Bare rs i 0 (length rs) → serving rs i n ≡ None
@@ -72,24 +72,34 @@ not_past rs i j k up p q l m =
           let less : (at rs j).position < (at rs k).position = up j k (grind arith, m, p ∙ sym q) in omega arith)
     ]
 
--- what serves from place k - 1 on, by the reading there
-serving_step : (rs : List Reading) (i n k : ℕ) → 0 < k → k ≤ length rs →
-    serving (drop (k - 1) rs) i n ≡ cond (eqb (at rs (k - 1)).parameter i) (nearer n (at rs (k - 1)) (serving (drop k rs) i n)) (serving (drop k rs) i n)
-serving_step rs i n k h l =
-    let e : serving (drop (k - 1) rs) i n ≡ cond (eqb (at rs (k - 1)).parameter i) (nearer n (at rs (k - 1)) (serving (drop (k - 1 + 1) rs) i n)) (serving (drop (k - 1 + 1) rs) i n) =
-    at_drop_more (λ xs. serving xs i n) rs (k - 1) blank (omega arith) in
-    let z : k - 1 + 1 ≡ k = omega arith in
-    let d : serving (drop (k - 1 + 1) rs) i n ≡ serving (drop k rs) i n = ap (λ x. serving (drop x rs) i n) z in
-    cc
+-- the nearest of r and those behind it, the first of equally near ones
+abbrev pub nearest_of : ℕ → Reading → List Reading → Reading
+nearest_of n r [] = r
+nearest_of n r (s ∷ rs) = nearest_of n (cond (ltb (away n s) (away n r)) s r) rs
 
-pub serving_own : (rs : List Reading) (i n k : ℕ) → 0 < k → k ≤ length rs → (at rs (k - 1)).parameter ≡ i →
-    nearer n (at rs (k - 1)) (serving (drop k rs) i n) ≡ serving (drop (k - 1) rs) i n
-serving_own rs i n k h l p =
-    let t : eqb (at rs (k - 1)).parameter i ≡ true = grind (arith, nat_tests) in
-    sym (serving_step rs i n k h l ∙ rw t refl)
+nearer_of : (n : ℕ) (r s : Reading) (o : Option Reading) → nearer n r (nearer n s o) ≡ nearer n (cond (ltb (away n s) (away n r)) s r) o
+nearer_of n r s None = grind (arith, nat_tests)
+nearer_of n r s (Some t) = grind (arith, nat_tests)
 
-pub serving_other : (rs : List Reading) (i n k : ℕ) → 0 < k → k ≤ length rs → ((at rs (k - 1)).parameter ≡ i → ⊥) →
-    serving (drop k rs) i n ≡ serving (drop (k - 1) rs) i n
-serving_other rs i n k h l p =
-    let t : eqb (at rs (k - 1)).parameter i ≡ false = grind (arith, nat_tests) in
-    sym (serving_step rs i n k h l ∙ rw t refl)
+abbrev Own : ℕ → Reading → Bool
+Own i r = eqb r.parameter i
+
+-- the nearest of those of one parameter, from the last to the first
+abbrev least : ℕ → List Reading → Option Reading
+least n [] = None
+least n (r ∷ rs) = nearer n r (least n rs)
+
+least_of : (n : ℕ) (r : Reading) (rs : List Reading) → Some (nearest_of n r rs) ≡ least n (r ∷ rs)
+least_of n r [] = refl
+least_of n r (s ∷ rs) = least_of n (cond (ltb (away n s) (away n r)) s r) rs ∙ sym (nearer_of n r s (least n rs))
+
+least_own : (rs : List Reading) (i n : ℕ) → serving rs i n ≡ least n (filter (Own i) rs)
+least_own [] i n = refl
+least_own (r ∷ rs) i n = rw (least_own rs i n) (elim (eqb r.parameter i) as (λ b. cond b (nearer n r (least n (filter (Own i) rs))) (least n (filter (Own i) rs)) ≡ least n (cond b (r ∷ filter (Own i) rs) (filter (Own i) rs))) [ true ↦ refl | false ↦ refl ])
+
+-- the same of what passes through the filter of a parameter
+pub serving_least : (rs : List Reading) (i n : ℕ) (r : Reading) (ss : List Reading) → r ∷ ss ≡ filter (λ s. eqb s.parameter i) rs → Some (nearest_of n r ss) ≡ serving rs i n
+serving_least rs i n r ss e = least_of n r ss ∙ ap (least n) e ∙ sym (least_own rs i n)
+
+pub serving_bare : (rs : List Reading) (i n : ℕ) → [] ≡ filter (λ s. eqb s.parameter i) rs → None ≡ serving rs i n
+serving_bare rs i n e = ap (least n) e ∙ sym (least_own rs i n)

@@ -26,7 +26,3 @@ enters f l e h =
     let a : outliers f l (e + 1 - l) ≡ outliers f l (suc (e - l)) = ap (outliers f l) k in
     let b : bit (f (l + (e - l))) ≡ bit (f e) = ap (λ x. bit (f x)) (omega arith) in
     omega (arith, outliers_more f l (e - l))
-
--- cell l, the first of those up to e, leaves
-pub leaves : (f : ℕ → Bool) (l e : ℕ) → l < e → outliers f l (e - l) ≡ bit (f l) + outliers f (l + 1) (e - (l + 1))
-leaves f l e h = ap (outliers f l) (let k : e - l ≡ suc (e - (l + 1)) = omega arith in k)

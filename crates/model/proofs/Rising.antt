@@ -1,29 +1,34 @@
 -- Positions that rise in each parameter, with a reading more or less.
-use Rattle.std.proofs.Common.{◌≡◌, ℕ, ◌+◌, ◌<◌, ◌≤◌, List, [], ◌∷◌, ◌++◌, length, sym, refl, ap, ◌∙◌, inl, inr, arith}
+use Rattle.std.proofs.Common.{◌≡◌, ℕ, zero, suc, ◌+◌, ◌<◌, ◌≤◌, true, eqb, List, [], ◌∷◌, ◌++◌, length, Option, Some, None, sym, refl, ap, ◌∙◌, inl, inr, arith}
 use Rattle.std.proofs.lemmas.List.{length_push, get_or_push, get_or_append_left}
 use Rattle.std.proofs.lemmas.List.Edits.{length-remove, get_or-remove_below, get_or-remove_above}
-use Rattle.std.proofs.lemmas.Bool.{cases_lt, cases_order}
+use Rattle.std.proofs.lemmas.Bool.{cases_lt}
+use Rattle.std.proofs.lemmas.Bool.Decides.{nat_tests}
 use Rattle.std.specs.List.{remove}
 use Rattle.model.specs.declared.reading.Reading.{Reading}
 use Rattle.model.specs.Serving.{at, blank}
 use Rattle.model.specs.Recorded.{Rising}
-use Rattle.model.specs.Recording.{past, beyond}
-use Rattle.model.proofs.Latest.{finds_last, latest_last}
+use Rattle.model.specs.Recording.{beyond, latest}
+use Rattle.model.proofs.Latest.{latest_stands}
 
 -- every reading of the parameter lies short of the first position beyond its last one
 pub short_of_beyond : (rs : List Reading) (i j : ℕ) → Rising rs → j < length rs → (at rs j).parameter ≡ i → (at rs j).position < beyond rs i
-short_of_beyond rs i j up l p = elim (finds_last rs i) [
-  | inl none ↦ absurd (none j (omega arith, l) p)
-  | inr f ↦ (let k = f.0 in
-      let e : beyond rs i ≡ (at rs k).position + 1 = ap past (latest_last rs i k f.1) in
-      elim (cases_order j k) [
-        | inl s ↦ (let q : (at rs j).position ≡ (at rs k).position = ap (λ x. (at rs x).position) s in omega arith)
-        | inr s ↦ elim s [
-          | inl m ↦ (let q : (at rs j).position < (at rs k).position = up j k (m, f.1.within, p ∙ sym f.1.own) in omega arith)
-          | inr m ↦ absurd (f.1.after j (omega arith, l) p)
-        ]
-      ])
-]
+short_of_beyond [] i j up l p = absurd (omega arith)
+short_of_beyond (r ∷ rs) i zero up l p = by (latest rs i) refl
+  where
+    by : (o : Option Reading) → latest rs i ≡ o → r.position < beyond (r ∷ rs) i
+    by None q = let t : eqb r.parameter i ≡ true = grind (arith, nat_tests) in rw (q, t) (omega arith)
+    by (Some s) q =
+        let h = latest_stands rs i s q in
+        let same : (at rs h.0).position ≡ s.position = ap (λ x. x.position) h.2 in
+        let less : r.position < (at rs h.0).position = up 0 (suc h.0) (omega arith, omega (arith, h.1), p ∙ sym (ap (λ x. x.parameter) h.2 ∙ h.3)) in
+        rw q (omega arith)
+short_of_beyond (r ∷ rs) i (suc j) up l p =
+    by (latest rs i) refl (short_of_beyond rs i j (λ m k a. up (suc m) (suc k) (omega (arith, a.0), omega (arith, a.1), a.2)) (omega (arith, l)) p)
+  where
+    by : (o : Option Reading) → latest rs i ≡ o → (at rs j).position < beyond rs i → (at rs j).position < beyond (r ∷ rs) i
+    by None q less = absurd (omega (arith, rw q at less))
+    by (Some s) q less = rw q (rw q at less)
 
 pub rising_push : (rs : List Reading) (r : Reading) → Rising rs → beyond rs r.parameter ≤ r.position → Rising (rs ++ r ∷ [])
 rising_push rs r up h j k a =

@@ -9,3 +9,4 @@ pub mod Sheets
 pub mod Choices
 pub mod Counting
 pub mod Examples
+pub mod Texts

@@ -23,22 +23,9 @@ number (EndsTooShort n) = 16
 
 -- the values that a refusal tells beside its number
 abbrev pub told : Refusal → List ℕ
-told ParametersOutOfRange = []
-told CellsOutOfRange = []
-told SheetOutOfRange = []
-told NoSuchParameter = []
-told PositionBeyondRoll = []
-told PositionNotBeyondLast = []
-told NoFreePlace = []
-told NothingToWithdraw = []
-told BarOutOfRange = []
-told TooManyBars = []
-told NoSuchEntry = []
-told LimitsOutOfOrder = []
-told ShareTooGreat = []
 told (WithoutLimits i) = i ∷ []
-told WorkTooShort = []
 told (EndsTooShort n) = n ∷ []
+told other = []
 
 -- a call is accepted, or refused by a number with the values told
 pub data Decision : Type 0 where

@@ -1,6 +1,10 @@
 // Why a call was refused: one case for each number, with the values that it tells.
-ghost use Rattle.std.specs.Prelude.{◌≡◌};
+ghost use Rattle.std.specs.Prelude.{◌≡◌, Some};
 ghost use Rattle.model.specs.Refusals.{number};
+ghost use Rattle.model.specs.Texts.{refusal_text};
+
+use std::error::Error;
+use std::fmt;
 
 #[derive(Clone, Copy, PartialEq, Eq, Debug)]
 pub enum Refusal {
@@ -23,7 +27,8 @@ pub enum Refusal {
 }
 
 impl Refusal {
-    // The number under which the rules list it.
+    // The number under which the rules list it. A case that tells a value has no discriminant to cast, so the numbers
+    // stand here.
     pub fn number(self) -> u8
         ensures { result ≡ number self }
     {
@@ -47,3 +52,19 @@ impl Refusal {
         }
     }
 }
+
+// The number, and the value that the refusal tells.
+impl fmt::Display for Refusal {
+    ghost output = { λ e. Some (refusal_text e) };
+
+    fn fmt<W: fmt::Write>(&self, f: &mut fmt::Formatter<W>) -> fmt::Result {
+        write!(f, "{}", self.number())?;
+        match self {
+            Refusal::WithoutLimits { parameter } => write!(f, ", parameter {parameter}"),
+            Refusal::EndsTooShort { sheets } => write!(f, ", sheets {sheets}"),
+            _ => Ok(()),
+        }
+    }
+}
+
+impl Error for Refusal {}

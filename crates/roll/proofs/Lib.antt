@@ -1,2 +1,3 @@
+pub mod Latest
 pub mod Nexts
-pub mod Shifting
+pub mod Picking

@@ -14,6 +14,11 @@ pub record Unused (before after : Places) : Type 0 where
   pub many : length after.all.now ≡ length before.all.now
   pub kept : drop after.used after.all.now ≡ drop after.used before.all.now
 
+-- the same places stay lent, and those unused afterwards keep what they held
+pub record Kept (before after : Places) : Type 0 where
+  pub same : after.all.ghost_name ≡ before.all.ghost_name
+  pub unused : Unused before after
+
 -- the latest of the parameter stands at place k, or there is none
 abbrev pub LatestAt : List Reading → ℕ → Option ℕ → Type 0
 LatestAt rs i None = Bare rs i 0 (length rs)

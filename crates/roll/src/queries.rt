@@ -1,6 +1,6 @@
 // What a roll tells of itself.
 ghost use Rattle.std.specs.Prelude.{◌≡◌, ◌≤◌};
-ghost use Rattle.model.specs.Serving.{ServedAt, away, nearer, serving, serving_at};
+ghost use Rattle.model.specs.Serving.{ServedAt, away, serving, serving_at};
 ghost use Rattle.roll.specs.Rolls.{roll_log};
 
 use crate::held::Roll;
@@ -14,11 +14,7 @@ impl<'a> Roll<'a> {
         ensures sheet { result.sheet ≡ (roll_log self.now).sheet }
         ensures parameters { result.parameters ≡ (roll_log self.now).parameters }
     {
-        Size {
-            cells: self.cells,
-            sheet: self.sheet,
-            parameters: self.parameters,
-        }
+        self.size
     }
 
     // The readings, in recorded order.
@@ -32,7 +28,7 @@ impl<'a> Roll<'a> {
     pub fn bars(&self) -> &[Bar]
         ensures { result.now ≡ (roll_log self.now).bars }
     {
-        &self.bars[0..self.standing]
+        self.bars.as_slice()
     }
 
     // The reading of the parameter that serves the cell, found by a look at each; none where the parameter has no
@@ -41,7 +37,7 @@ impl<'a> Roll<'a> {
         ensures value { result ≡ serving_at (roll_log self.now) parameter cell }
         ensures serves { ServedAt (roll_log self.now) parameter cell result }
     {
-        if cell < 1 || cell > self.cells as u32 {
+        if !(1..=self.size.cells as u32).contains(&cell) {
             return None;
         }
         nearest(self.readings(), parameter, cell)
@@ -54,31 +50,11 @@ fn nearest(readings: &[Reading], parameter: u32, cell: u32) -> Option<Reading>
     requires last { cell ≤ 32768 }
     ensures { result ≡ serving readings.now parameter cell }
 {
-    let mut best = None;
-    for k in (0..readings.len()).rev() {
-        if readings[k].parameter as u32 == parameter {
-            best = nearer(cell, readings[k], best);
-        }
-    }
-    best
-}
-
-// The nearer to the cell's middle, `reading` where both are equally near.
-fn nearer(cell: u32, reading: Reading, other: Option<Reading>) -> Option<Reading>
-    requires first { 1 ≤ cell }
-    requires last { cell ≤ 32768 }
-    ensures { result ≡ nearer cell reading other }
-{
-    match other {
-        None => Some(reading),
-        Some(later) => {
-            if away(cell, reading) <= away(cell, later) {
-                Some(reading)
-            } else {
-                Some(later)
-            }
-        }
-    }
+    readings
+        .iter()
+        .filter(|r| r.parameter as u32 == parameter)
+        .min_by_key(|r| away(cell, **r))
+        .copied()
 }
 
 // How far the reading lies from the middle of the cell, in half cells.

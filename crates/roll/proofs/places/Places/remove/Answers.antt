@@ -1,25 +1,22 @@
-use Rattle.std.proofs.Common.{◌≡◌, ◌+◌, ◌-◌, take, sym, ap, ◌∙◌, arith}
-use Rattle.std.specs.List.{remove}
-use Rattle.roll.proofs.Shifting.{Shifted, shifted_more, shifted_kept, shifted_beyond}
+use Rattle.std.proofs.Common.{◌≡◌, ℕ, suc, ◌+◌, ◌-◌, ◌<◌, ◌≤◌, List, length, take, drop, ap, ◌∙◌, sym, arith, length-drop}
+use Rattle.std.proofs.lemmas.List.{drop-take, take-take, length-take-le}
+use Rattle.std.proofs.lemmas.List.Edits.{take-paste}
+use Rattle.std.specs.List.{remove, copy_within}
 use Rattle.roll.proofs.places.Places.remove.Goals as goal
 
-pub loop-k-preserved : goal.loop-k-preserved
-loop-k-preserved c = (
-  c.loop-k.invariant.0,
-  shifted_more _ _ _ _ c.loop-k.auto.k (omega (arith, c.requires.room, c.loop-k-test.true)) c.loop-k.invariant.1,
-)
+-- of the first n elements those behind place k move one place forward
+moved : {X : Type 0} (xs : List X) (k m j n : ℕ) → j ≡ suc k → n ≡ j + m → n ≤ length xs → take (k + m) (copy_within xs j n k) ≡ remove (take n xs) k
+moved xs k m j n i e l =
+    let z : n - j ≡ m = omega arith in
+    let low : take k (take n xs) ≡ take k xs = take-take k n xs (omega arith) in
+    let high : drop (suc k) (take n xs) ≡ take m (drop j xs) = ap (λ x. drop x (take n xs)) (sym i) ∙ ap (λ x. drop j (take x xs)) e ∙ drop-take j m xs in
+    rw (low, high, z) (take-paste xs k (drop j xs) m (omega arith) (omega (arith, length-drop j xs)))
 
-pub returns : goal.returns
-returns c =
-    let used = c.args.self.now.used in
-    let xs = c.args.self.now.all.now in
-    let last = used - 1 in
-    let k : c.loop-k.k ≡ last = omega (arith, c.loop-k.auto.k-end (omega (arith, c.requires.within)), c.loop-k-test.false) in
-    let h : Shifted xs c.loop-k.self.all.now c.args.place last = rw (sym k) c.loop-k.invariant.1 in
-    let z : last + 1 ≡ used = omega (arith, c.requires.within) in
-    record {
-      after = shifted_kept xs c.loop-k.self.all.now c.args.place last (omega (arith, c.requires.within)) (omega (arith, c.requires.room, c.requires.within)) h ∙ ap (λ n. remove (take n xs) c.args.place) z;
-      used = z;
-      unused = record { many = h.many; kept = shifted_beyond xs c.loop-k.self.all.now c.args.place last h };
-      lent = c.loop-k.invariant.0;
-    }
+pub returns-clause-after : goal.returns-clause-after
+returns-clause-after c =
+    let s = c.args.self.now in
+    let k = c.args.place in
+    let w : k < s.used = omega (arith, c.requires, length-take-le s.used s.all.now s.room.0) in
+    let n : k + (s.used - (k + 1)) ≡ s.used - 1 = omega arith in
+    ap (take (s.used - 1)) c.copy_within.ensures.after ∙ ap (λ x. take x (copy_within s.all.now (k + 1) s.used k)) (sym n)
+    ∙ moved s.all.now k (s.used - (k + 1)) (k + 1) s.used (omega arith) (omega arith) s.room.0

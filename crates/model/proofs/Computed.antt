@@ -1,0 +1,9 @@
+-- The checker computes the worked examples here.
+use Rattle.std.proofs.Common.{◌≡◌, true, refl}
+use lib.Ieee.{lt, le, eq, is_nan, of_bits, of_fields}
+use Rattle.std.specs.Float.{float_is_finite}
+use Rattle.model.specs.Examples.{examples, holds}
+
+pub all_hold : holds examples ≡ true
+unfolding lt le eq is_nan of_bits of_fields float_is_finite
+all_hold = refl
