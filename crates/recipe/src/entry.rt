@@ -1,43 +1,48 @@
 // Entries with limits: made from rows, and asked.
-ghost use Rattle.std.specs.Prelude.{◌≡◌, is_some, IfSome};
-ghost use Rattle.model.specs.Recipes.{has_limits};
+ghost use Rattle.std.specs.Prelude.{◌≡◌};
 ghost use Rattle.model.specs.Verdicts.{judged};
-ghost use Rattle.recipe.specs.Entries.{plain};
+ghost use Rattle.recipe.specs.Entries.{Makes, plain};
 
 use crate::held::Limits;
 use model::reading::Reading;
+use model::refusal::Refusal;
 use model::row::Row;
 use model::verdict::Verdict;
 
-impl Limits {
-    // The limits that a row gives; none where it fails the check, wherever it came from.
-    pub fn of(row: Row) -> Option<Limits>
-        ensures test { is_some result ≡ has_limits row }
-        ensures value { IfSome result (λ l. plain l ≡ row) }
-    {
-        if row.low.is_finite() && row.high.is_finite() && row.low <= row.high && row.share <= 1000 {
-            Some(Limits {
-                low: row.low,
-                high: row.high,
-                share: row.share,
-            })
-        } else {
-            None
-        }
-    }
+// The limits that a row gives; a row that fails the check gives none, wherever it came from.
+impl TryFrom<Row> for Limits {
+    type Error = Refusal;
 
-    // The limits and the share, as a plain row.
-    pub fn row(self) -> Row
-        ensures { result ≡ plain self }
-    {
+    ghost try_from_gives = { Makes };
+
+    fn try_from(row: Row) -> Result<Limits, Refusal> {
+        let Row { low, high, share } = row;
+        if !(low.is_finite() && high.is_finite() && low <= high) {
+            return Err(Refusal::LimitsOutOfOrder);
+        }
+        if share > 1000 {
+            return Err(Refusal::ShareTooGreat);
+        }
+        Ok(Limits { low, high, share })
+    }
+}
+
+// The limits and the share, as a plain row.
+impl From<Limits> for Row {
+    ghost from_gives = { λ l row. row ≡ plain l };
+
+    fn from(limits: Limits) -> Row {
         Row {
-            low: self.low,
-            high: self.high,
-            share: self.share,
+            low: limits.low,
+            high: limits.high,
+            share: limits.share,
         }
     }
+}
 
-    // The verdict on a cell that this reading serves; a missing reading makes an outlier.
+impl Limits {
+    // The verdict on a cell that this reading serves; a missing reading makes an outlier. What makes one stands as the rules
+    // list it: a test for the range would hide that no number is in none.
     pub fn verdict(self, reading: Option<Reading>) -> Verdict
         ensures { result ≡ judged (plain self) reading }
     {

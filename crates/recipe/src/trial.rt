@@ -7,7 +7,8 @@ ghost use Rattle.recipe.specs.Tables.{aside_log, recipe_log};
 use crate::table::Recipe;
 use model::refusal::Refusal;
 
-// Stands until it is let go, on whatever way: then the recipe is as it was when the trial began.
+// Stands until it is let go, on whatever way: then the recipe is as it was when the trial began. Contracts name the
+// recipe behind the reference as such, since a word for it would be no plainer.
 pub struct Trial<'a> {
     recipe: &'a mut Recipe,
 }
