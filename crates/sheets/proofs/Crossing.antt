@@ -2,6 +2,8 @@
 use Rattle.std.proofs.Common.{◌≡◌, ℕ, zero, suc, ◌+◌, ◌-◌, ◌<◌, ◌≤◌, Bool, true, false, not, ◌&&◌, ◌||◌, leb, List, [], ◌∷◌, sym, refl, ap, ◌∙◌, arith}
 use Rattle.std.proofs.lemmas.Bool.Decides.{nat_tests}
 use Rattle.model.specs.declared.bar.Bar.{Bar}
+use Rattle.std.specs.List.{list_any}
+use Rattle.model.specs.Recorded.{Barring}
 use Rattle.model.specs.Sheets.{barred, clear}
 
 regroup : (a b p q : Bool) → (not (a || b) && (p && q)) ≡ ((not (a || false) && p) && (not b && q))
@@ -47,3 +49,22 @@ clear_met x m p l h =
     let many : p + 1 - m ≡ suc (p - m) = omega arith in
     let last : m + (p - m) ≡ p = omega arith in
     sym (ap (λ k. not (clear (x ∷ []) m k)) many ∙ ap not (clear_one x m (p - m) h) ∙ twice (meets x m (m + (p - m))) ∙ ap (meets x m) last)
+
+clear_none : (m k : ℕ) → clear [] m k ≡ true
+clear_none m zero = refl
+clear_none m (suc k) = clear_none (m + 1) k
+
+-- a bar meets the cells from m to p where they are not clear
+pub crossed_is : (bs : List Bar) (cells m p : ℕ) → m ≤ p → Barring cells bs → list_any (λ x. meets x m p) bs ≡ not (clear bs m (p + 1 - m))
+crossed_is [] cells m p l h = sym (ap not (clear_none m (p + 1 - m)))
+crossed_is (x ∷ bs) cells m p l h =
+    let e = clear_cons x bs m (p + 1 - m) in
+    let first : meets x m p ≡ not (clear (x ∷ []) m (p + 1 - m)) = clear_met x m p l (h 0 (omega arith)).1 in
+    let rest = crossed_is bs cells m p l (λ k w. h (suc k) (omega arith)) in
+    ap (λ t. t || list_any (λ y. meets y m p) bs) first
+    ∙ ap (λ t. not (clear (x ∷ []) m (p + 1 - m)) || t) rest
+    ∙ either (clear (x ∷ []) m (p + 1 - m)) (clear bs m (p + 1 - m)) ∙ sym (ap not e)
+  where
+    either : (s t : Bool) → (not s || not t) ≡ not (s && t)
+    either true t = refl
+    either false t = refl

@@ -1,5 +1,4 @@
 pub mod Crossing
-pub mod Facts
 pub mod Gauges
 pub mod Looking
 pub mod Standing

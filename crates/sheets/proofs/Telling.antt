@@ -1,19 +1,18 @@
 -- The sheet under a window, as the queries tell it.
-use Rattle.std.proofs.Common.{◌≡◌, ℕ, Bool, true, not, ◌&&◌, List, is_some, Some, None, Option, sym, ap, ◌∙◌, inl, inr, arith}
+use Rattle.std.proofs.Common.{◌≡◌, ℕ, Bool, true, not, ◌&&◌, List, is_some, Some, None, Option, sym, ap, ◌∙◌, inl, inr}
 use Rattle.std.proofs.lemmas.Bool.{and_from, and_parts, cases_Bool, cond-true, cond-false}
 use Rattle.model.specs.Counting.{lacking}
 use Rattle.model.specs.Log.{Log}
 use Rattle.model.specs.Sheets.{clear, counts, first_cell, fits, good, within_shares}
 use Rattle.sheets.specs.declared.judged.Sheet.{Sheet}
-use Rattle.sheets.specs.declared.window.Window.{Window}
 use Rattle.sheets.specs.Answers.{judgeable, sheet_at}
-use Rattle.sheets.specs.Windows.{seen}
+use Rattle.sheets.specs.Seen.{seen}
 
-pub sheet_told : (log : Log) (w : Window) (p : ℕ) (s : Sheet) → seen w log.roll.places ≡ log → w.end ≡ p → judgeable log p ≡ true →
-    ((n : ℕ) → s.counts ≡ counts (seen w n) w.end) → ((n : ℕ) → s.good ≡ good (seen w n) w.end) → Some s ≡ sheet_at log p
-sheet_told log w p s sees end on counted judged =
-    let many : s.counts ≡ counts log p = counted log.roll.places ∙ ap (λ g. counts g w.end) sees ∙ ap (counts log) end in
-    let well : s.good ≡ good log p = judged log.roll.places ∙ ap (λ g. good g w.end) sees ∙ ap (good log) end in
+pub sheet_told : (log seen : Log) (p end : ℕ) (s : Sheet) → seen ≡ log → end ≡ p → judgeable log p ≡ true →
+    s.counts ≡ counts seen end → s.good ≡ good seen end → Some s ≡ sheet_at log p
+sheet_told log seen p end s sees at on counted judged =
+    let many : s.counts ≡ counts log p = counted ∙ ap (λ g. counts g end) sees ∙ ap (counts log) at in
+    let well : s.good ≡ good log p = judged ∙ ap (λ g. good g end) sees ∙ ap (good log) at in
     let of : List ℕ → Bool → Option Sheet = λ xs t. Some (record { counts = xs; good = t }) in
     ap (λ xs. of xs s.good) many ∙ ap (of (counts log p)) well ∙ sym (cond-true (judgeable log p) (of (counts log p) (good log p)) None on)
 
@@ -23,8 +22,11 @@ told_sheet log p s e = elim (cases_Bool (judgeable log p)) [
   | inl t ↦ (let same : Some s ≡ Some (record { counts = counts log p; good = good log p }) = e ∙ cond-true (judgeable log p) (Some (record { counts = counts log p; good = good log p })) None t in
       let is : s ≡ record { counts = counts log p; good = good log p } = cc in
       (ap (λ x. x.counts) is, ap (λ x. x.good) is))
-  | inr t ↦ (let none : Some s ≡ None = e ∙ cond-false (judgeable log p) (Some (record { counts = counts log p; good = good log p })) None t in absurd (grind arith))
+  | inr t ↦ (let none : Some s ≡ None = e ∙ cond-false (judgeable log p) (Some (record { counts = counts log p; good = good log p })) None t in absurd cc)
 ]
+
+none_some : (o : Option Sheet) (s : Sheet) → None ≡ o → o ≡ Some s → ⊥
+none_some o s e f = cc
 
 -- where none is told though each parameter has limits, none is good
 pub told_none : (log : Log) (p : ℕ) → lacking log ≡ None → None ≡ sheet_at log p → good log p ≡ true → ⊥
@@ -32,5 +34,5 @@ told_none log p l e g =
     let on : fits log p ≡ true = (and_parts (fits log p) (clear log.roll.bars (first_cell log p) log.roll.sheet && within_shares log p log.roll.parameters) g).0 in
     let all : not (is_some (lacking log)) ≡ true = ap (λ o. not (is_some o)) l in
     let t : judgeable log p ≡ true = and_from (fits log p) (not (is_some (lacking log))) on all in
-    let some : None ≡ Some (record { counts = counts log p; good = good log p }) = e ∙ cond-true (judgeable log p) (Some (record { counts = counts log p; good = good log p })) None t in
-    grind arith
+    none_some (sheet_at log p) (record { counts = counts log p; good = good log p }) e
+    (cond-true (judgeable log p) (Some (record { counts = counts log p; good = good log p })) None t)

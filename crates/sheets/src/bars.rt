@@ -1,5 +1,5 @@
 // Bars on the cells of a sheet.
-ghost use Rattle.std.specs.Prelude.{◌≡◌, ◌+◌, ◌-◌, ◌≤◌, not, [], ◌∷◌};
+ghost use Rattle.std.specs.Prelude.{◌≡◌, ◌+◌, ◌-◌, ◌≤◌, not};
 ghost use Rattle.model.specs.Recorded.{Barring};
 ghost use Rattle.model.specs.Sheets.{clear};
 
@@ -11,18 +11,5 @@ pub(crate) fn crossed(bars: &[Bar], first: u16, last: u16) -> bool
     requires order { first ≤ last }
     ensures { result ≡ not (clear bars.now first (last + 1 - first)) }
 {
-    for bar in bars {
-        if crosses(*bar, first, last) {
-            return true;
-        }
-    }
-    false
-}
-
-fn crosses(bar: Bar, first: u16, last: u16) -> bool
-    requires barring { bar.from ≤ bar.to }
-    requires order { first ≤ last }
-    ensures { result ≡ not (clear (bar ∷ []) first (last + 1 - first)) }
-{
-    bar.from <= last && first <= bar.to
+    bars.iter().any(|bar| bar.from <= last && first <= bar.to)
 }

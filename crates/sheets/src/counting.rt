@@ -1,9 +1,7 @@
 // Count: the greatest number of sheets that can be cut.
-ghost use Rattle.std.specs.Prelude.{◌≡◌, ◌≤◌, IfOk};
+ghost use Rattle.std.specs.Prelude.{◌≡◌, IfOk, OnOk};
 ghost use Rattle.model.specs.Counting.{Complete, Counted, count_checks};
-ghost use Rattle.model.specs.Recipes.{first_without};
 ghost use Rattle.model.specs.Refusals.{decide, decision};
-ghost use Rattle.recipe.specs.Tables.{recipe_log};
 ghost use Rattle.sheets.specs.Logs.{log_of};
 
 use crate::window::Window;
@@ -16,26 +14,25 @@ pub fn count(roll: &Roll, recipe: &Recipe) -> Result<(u32, u32), Refusal>
     ensures answer { decision result ≡ decide (count_checks (log_of roll.now recipe.now)) }
     ensures value { IfOk result (λ t. Counted (log_of roll.now recipe.now) t.0 t.1) }
 {
-    match first_without(recipe, roll.size().parameters) {
-        Some(parameter) => Err(Refusal::WithoutLimits { parameter }),
-        None => Ok(walk(roll, recipe)),
-    }
+    complete(roll, recipe)?;
+    Ok(walk(roll, recipe))
 }
 
-// The smallest of the first `parameters` that has no limits.
-pub(crate) fn first_without(recipe: &Recipe, parameters: u8) -> Option<u8>
-    requires { parameters ≤ 8 }
-    ensures { result ≡ first_without (recipe_log recipe.now).rows 1 parameters }
+// Whether each parameter of the roll has limits; the refusal tells the smallest that has none.
+pub(crate) fn complete(roll: &Roll, recipe: &Recipe) -> Result<(), Refusal>
+    ensures answer { decision result ≡ decide (count_checks (log_of roll.now recipe.now)) }
+    ensures complete { OnOk result (Complete (log_of roll.now recipe.now)) }
 {
-    for i in 0..parameters {
-        if recipe.entry(i as u32 + 1).is_none() {
-            return Some(i + 1);
+    for parameter in 1..=roll.size().parameters {
+        if recipe.entry(parameter as u32).is_none() {
+            return Err(Refusal::WithoutLimits { parameter });
         }
     }
-    None
+    Ok(())
 }
 
-// Takes each good sheet as soon as it can, from the first end on.
+// Takes each good sheet as soon as it can, from the first end on. How far it goes on is found by the look, so that no
+// range gives the ends.
 fn walk(roll: &Roll, recipe: &Recipe) -> (u32, u32)
     requires { Complete (log_of roll.now recipe.now) }
     ensures { Counted (log_of roll.now recipe.now) result.0 result.1 }
@@ -43,7 +40,8 @@ fn walk(roll: &Roll, recipe: &Recipe) -> (u32, u32)
     let mut window = Window::new(roll, recipe);
     let mut sheets = 0;
     let mut looks = 0;
-    while window.end <= window.size.cells {
+    let cells = roll.size().cells;
+    while window.end <= cells {
         let look = window.look();
         looks += 1;
         if look.good {

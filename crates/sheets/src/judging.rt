@@ -16,16 +16,11 @@ pub fn verdict(roll: &Roll, recipe: &Recipe, parameter: u32, cell: u32) -> Optio
     ensures { result ≡ verdict_at (log_of roll.now recipe.now) parameter cell }
 {
     let size = roll.size();
-    if cell < 1 || cell > size.cells as u32 {
+    if !(1..=size.cells as u32).contains(&cell) || parameter > size.parameters as u32 {
         return None;
     }
-    if parameter > size.parameters as u32 {
-        return None;
-    }
-    match recipe.entry(parameter) {
-        Some(limits) => Some(limits.verdict(roll.serving(parameter, cell))),
-        None => None,
-    }
+    let limits = recipe.entry(parameter)?;
+    Some(limits.verdict(roll.serving(parameter, cell)))
 }
 
 // The sheet that ends at `end`; none where no sheet of the roll ends there, or a parameter of the roll has no limits.
@@ -33,12 +28,10 @@ pub fn sheet(roll: &Roll, recipe: &Recipe, end: u32) -> Option<Sheet>
     ensures { result ≡ sheet_at (log_of roll.now recipe.now) end }
 {
     let size = roll.size();
-    if end < size.sheet as u32 || end > size.cells as u32 {
+    if !(size.sheet as u32..=size.cells as u32).contains(&end) {
         return None;
     }
-    if counting::first_without(recipe, size.parameters).is_some() {
-        return None;
-    }
+    counting::complete(roll, recipe).ok()?;
     let mut window = Window::new(roll, recipe);
     window.slide(end as u16 - size.sheet);
     Some(window.sheet())

@@ -1,6 +1,6 @@
 // A scan along a roll, and what always holds of it.
 ghost use Rattle.std.specs.Prelude.{◌≡◌, ◌≤◌, max};
-ghost use Rattle.sheets.specs.Windows.{Over};
+ghost use Rattle.roll.specs.Rolls.{roll_log};
 
 use crate::window::Window;
 
@@ -9,7 +9,6 @@ use crate::window::Window;
 pub struct Scan<'a, 'b> {
     pub(crate) window: Window<'a, 'b>,
     pub(crate) position: u16,
-    ghost over: { ∥ Over window ∥₁ },
-    ghost reached: { position ≤ window.size.cells },
-    ghost end: { window.end ≡ max position window.size.sheet },
+    ghost reached: { position ≤ (roll_log window.roll.now).cells },
+    ghost end: { window.end ≡ max position (roll_log window.roll.now).sheet },
 }

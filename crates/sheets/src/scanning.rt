@@ -22,13 +22,11 @@ impl<'a, 'b> Scan<'a, 'b> {
         ensures start { IfOk result (λ s. s.position ≡ 0) }
         ensures sees { IfOk result (λ s. Sees s (log_of roll.now recipe.now)) }
     {
-        match counting::first_without(recipe, roll.size().parameters) {
-            Some(parameter) => Err(Refusal::WithoutLimits { parameter }),
-            None => Ok(Scan {
-                window: Window::new(roll, recipe),
-                position: 0,
-            }),
-        }
+        counting::complete(roll, recipe)?;
+        Ok(Scan {
+            window: Window::new(roll, recipe),
+            position: 0,
+        })
     }
 
     // On to the next position of the roll, if there is one: the sheet that ends there, and none where none does.
@@ -37,7 +35,7 @@ impl<'a, 'b> Scan<'a, 'b> {
         ensures moved { (log : Log) → Sees self.old log → self.new.position ≡ min (self.old.position + 1) log.roll.cells }
         ensures sees { (log : Log) → Sees self.old log → Sees self.new log }
     {
-        let size = self.window.size;
+        let size = self.window.roll.size();
         if self.position >= size.cells {
             return None;
         }

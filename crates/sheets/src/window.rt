@@ -1,55 +1,40 @@
 // A window over one sheet that moves along the roll, with the sheet's outlier counts.
-ghost use Rattle.std.specs.Prelude.{◌≡◌, ℕ, ◌+◌, ◌-◌, ◌*◌, ◌/◌, ◌≤◌, max, true, if◌then◌else◌};
+ghost use Rattle.std.specs.Prelude.{◌≡◌, ◌+◌, ◌-◌, ◌*◌, ◌/◌, ◌≤◌, max, true, if◌then◌else◌};
 ghost use Rattle.model.specs.Counting.{Complete, excess, stride};
+ghost use Rattle.model.specs.Recorded.{Rising};
 ghost use Rattle.model.specs.Recipes.{has_limits, row_of};
 ghost use Rattle.model.specs.Sheets.{counts, good};
 ghost use Rattle.recipe.specs.Entries.{plain};
 ghost use Rattle.recipe.specs.Tables.{recipe_log};
 ghost use Rattle.roll.specs.Rolls.{roll_log};
 ghost use Rattle.sheets.specs.Logs.{log_of};
-ghost use Rattle.sheets.specs.Windows.{Over, Same, seen};
+ghost use Rattle.sheets.specs.Windows.{Over};
 
 use crate::bars;
 use crate::gauge::Gauge;
 use crate::judged::Sheet;
-use crate::search::Search;
-use model::bar::Bar;
+use crate::lane::Lane;
 use model::reading::Reading;
-use model::size::Size;
+use model::row::Row;
 use recipe::{Limits, Recipe};
 use roll::Roll;
 
 // The sheet that ends at `end`: one gauge for each parameter, those beyond the roll's parameters at rest.
 #[derive(Drop)]
 pub(crate) struct Window<'a, 'b> {
-    pub(crate) readings: &'a [Reading],
-    pub(crate) bars: &'a [Bar],
+    pub(crate) roll: &'a Roll<'a>,
     pub(crate) recipe: &'b Recipe,
-    pub(crate) size: Size,
     pub(crate) end: u16,
     pub(crate) gauges: [Gauge; 8],
+    ghost over: { Over (log_of roll.now recipe.now) end gauges },
 }
 
-// Whether a sheet is good, and how far the walk over the ends goes on from it.
+// Whether a sheet is good, and how far the walk over the ends goes on from it, which it does in either case.
 #[derive(Clone, Copy)]
 pub(crate) struct Look {
     pub(crate) good: bool,
     pub(crate) stride: u16,
 }
-
-const AT_REST: Gauge = Gauge {
-    entering: Search {
-        cell: 0,
-        before: 0,
-        after: 0,
-    },
-    leaving: Search {
-        cell: 0,
-        before: 0,
-        after: 0,
-    },
-    outliers: 0,
-};
 
 // The entry of a parameter that is known to have limits.
 fn entry(recipe: &Recipe, parameter: u8) -> Limits
@@ -58,9 +43,36 @@ fn entry(recipe: &Recipe, parameter: u8) -> Limits
     requires few { parameter ≤ 8 }
     ensures { plain result ≡ row_of (recipe_log recipe.now).rows parameter }
 {
-    match recipe.entry(parameter as u32) {
-        Some(limits) => limits,
-        None => unreachable(),
+    recipe.entry(parameter as u32).unwrap()
+}
+
+// What is looked up for a parameter that is known to have limits.
+fn lane<'a>(readings: &'a [Reading], recipe: &Recipe, parameter: u8) -> Lane<'a>
+    requires rising { Rising readings.now }
+    requires limited { has_limits (row_of (recipe_log recipe.now).rows parameter) ≡ true }
+    requires some { 1 ≤ parameter }
+    requires few { parameter ≤ 8 }
+    ensures readings { result.readings.now ≡ readings.now }
+    ensures parameter { result.parameter ≡ parameter }
+    ensures limits { plain result.limits ≡ row_of (recipe_log recipe.now).rows parameter }
+{
+    Lane {
+        readings,
+        parameter,
+        limits: entry(recipe, parameter),
+    }
+}
+
+// Moves the gauges of a window whose sheet ends at `end` on by n cells. Apart from `slide`, since in between they are over no
+// one sheet; by number, since of what a loop over `iter_mut` writes nothing is known afterwards.
+fn slide_gauges(gauges: &mut [Gauge], roll: &Roll, recipe: &Recipe, end: u16, n: u16)
+    requires over { Over (log_of roll.now recipe.now) end gauges.old }
+    requires room { end + n ≤ 65534 }
+    ensures { Over (log_of roll.now recipe.now) (end + n) gauges.new }
+{
+    let readings = roll.readings();
+    for i in 0..roll.size().parameters {
+        gauges[i as usize].slide(&lane(readings, recipe, i + 1), n);
     }
 }
 
@@ -80,27 +92,24 @@ fn onward(good: bool, sheet: u16, excess: u16) -> u16
 }
 
 impl<'a, 'b> Window<'a, 'b> {
+    ghost use Rattle.sheets.specs.Seen.{seen};
+
     // Over the first sheet.
     pub(crate) fn new(roll: &'a Roll, recipe: &'b Recipe) -> Window<'a, 'b>
         requires { Complete (log_of roll.now recipe.now) }
-        ensures over { Over result }
-        ensures sees { seen result (roll_log roll.now).places ≡ log_of roll.now recipe.now }
+        ensures sees { seen result ≡ log_of roll.now recipe.now }
         ensures end { result.end ≡ (roll_log roll.now).sheet }
     {
         let size = roll.size();
         let readings = roll.readings();
-        let mut gauges = [AT_REST; 8];
+        let mut gauges = [Gauge::AT_REST; 8];
+        // by number, as in `slide_gauges`
         for i in 0..size.parameters {
-            let limits = entry(recipe, i + 1);
-            let mut gauge = Gauge::new(readings, i + 1, limits);
-            gauge.widen(readings, i + 1, limits, size.sheet);
-            gauges[i as usize] = gauge;
+            gauges[i as usize] = Gauge::over(&lane(readings, recipe, i + 1), size.sheet);
         }
         Window {
-            readings,
-            bars: roll.bars(),
+            roll,
             recipe,
-            size,
             end: size.sheet,
             gauges,
         }
@@ -108,64 +117,53 @@ impl<'a, 'b> Window<'a, 'b> {
 
     // Moves on by n cells.
     pub(crate) fn slide(&mut self, n: u16)
-        requires over { Over self.old }
         requires room { self.old.end + n ≤ 65534 }
-        ensures over { Over self.new }
-        ensures same { Same self.old self.new }
+        ensures same { seen self.new ≡ seen self.old }
         ensures moved { self.new.end ≡ self.old.end + n }
     {
-        for i in 0..self.size.parameters {
-            let limits = entry(self.recipe, i + 1);
-            self.gauges[i as usize].slide(self.readings, i + 1, limits, n);
-        }
+        slide_gauges(&mut self.gauges, self.roll, self.recipe, self.end, n);
         self.end += n;
     }
 
     // The eight outlier counts of the sheet.
-    pub(crate) fn counts(&self) -> [u16; 8]
-        requires over { Over self.now }
-        ensures { (n : ℕ) → result ≡ counts (seen self.now n) self.now.end }
+    fn counts(&self) -> [u16; 8]
+        ensures { result ≡ counts (seen self.now) self.now.end }
     {
-        let mut counts = [0; 8];
-        for i in 0..8 {
-            counts[i] = self.gauges[i].outliers;
-        }
-        counts
+        self.gauges.map(|gauge| gauge.outliers)
     }
 
-    // By how much a parameter of the sheet passes what its share allows, at most.
-    pub(crate) fn excess(&self) -> u16
-        requires over { Over self.now }
-        ensures { (n : ℕ) → result ≡ excess (seen self.now n) self.now.end self.now.size.parameters }
+    // The most by which a parameter of the sheet passes what its share allows. By number, for the recipe and the gauges.
+    fn excess(&self) -> u16
+        ensures { result ≡ excess (seen self.now) self.now.end (seen self.now).roll.parameters }
     {
+        let size = self.roll.size();
         let mut most: u16 = 0;
-        for i in 0..self.size.parameters {
-            let share = entry(self.recipe, i + 1).row().share;
-            most = most.max(over(self.gauges[i as usize].outliers, share, self.size.sheet));
+        for i in 0..size.parameters {
+            let share = Row::from(entry(self.recipe, i + 1)).share;
+            most = most.max(over(self.gauges[i as usize].outliers, share, size.sheet));
         }
         most
     }
 
     // A look at the sheet.
     pub(crate) fn look(&self) -> Look
-        requires over { Over self.now }
-        requires high { self.now.end ≤ self.now.size.cells }
-        ensures good { (n : ℕ) → result.good ≡ good (seen self.now n) self.now.end }
-        ensures stride { (n : ℕ) → result.stride ≡ stride (seen self.now n) self.now.end }
+        requires { self.now.end ≤ (seen self.now).roll.cells }
+        ensures good { result.good ≡ good (seen self.now) self.now.end }
+        ensures stride { result.stride ≡ stride (seen self.now) self.now.end }
     {
+        let sheet = self.roll.size().sheet;
         let excess = self.excess();
-        let first = self.end + 1 - self.size.sheet;
-        let good = excess == 0 && !bars::crossed(self.bars, first, self.end);
-        let stride = onward(good, self.size.sheet, excess);
+        let first = self.end + 1 - sheet;
+        let good = excess == 0 && !bars::crossed(self.roll.bars(), first, self.end);
+        let stride = onward(good, sheet, excess);
         Look { good, stride }
     }
 
     // The sheet, as the rules judge it.
     pub(crate) fn sheet(&self) -> Sheet
-        requires over { Over self.now }
-        requires high { self.now.end ≤ self.now.size.cells }
-        ensures counts { (n : ℕ) → result.counts ≡ counts (seen self.now n) self.now.end }
-        ensures good { (n : ℕ) → result.good ≡ good (seen self.now n) self.now.end }
+        requires { self.now.end ≤ (seen self.now).roll.cells }
+        ensures counts { result.counts ≡ counts (seen self.now) self.now.end }
+        ensures good { result.good ≡ good (seen self.now) self.now.end }
     {
         Sheet {
             counts: self.counts(),
