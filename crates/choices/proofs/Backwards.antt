@@ -1,5 +1,5 @@
 -- Choices written last end first: so they grow at one end, and so they are traced back.
-use Rattle.std.proofs.Common.{◌≡◌, ℕ, ◌-◌, ◌<◌, ◌≤◌, Bool, true, ◌⊎◌, List, [], ◌∷◌, length, ap, ◌∙◌, subst, inl, inr, arith}
+use Rattle.std.proofs.Common.{◌≡◌, ℕ, ◌-◌, ◌<◌, ◌≤◌, Bool, true, ◌⊎◌, List, [], ◌∷◌, length, ap, inl, inr, arith}
 use Rattle.std.proofs.lemmas.Bool.{cases_eq}
 use Rattle.criteria.specs.Law.{Rules, Ordered, Adding}
 
@@ -38,31 +38,23 @@ pub earlier_trans : (a b c : List ℕ) → Earlier a b → Earlier b c → Earli
 earlier_trans [] b c h i = absurd h
 earlier_trans (p ∷ ps) [] c h i = absurd h
 earlier_trans (p ∷ ps) (q ∷ qs) [] h i = absurd i
-earlier_trans (p ∷ ps) (q ∷ qs) (r ∷ rs) h i = elim h [
-  | inl x ↦ elim i [ inl y ↦ inl (omega arith) | inr y ↦ inl (omega arith) ]
-  | inr x ↦ elim i [ inl y ↦ inl (omega arith) | inr y ↦ inr (x.0 ∙ y.0, earlier_trans ps qs rs x.1 y.1) ]
-]
+earlier_trans (p ∷ ps) (q ∷ qs) (r ∷ rs) h i = grind (arith, earlier_trans ps qs rs)
 
 pub earlier_never : (a : List ℕ) → Earlier a a → ⊥
 earlier_never [] h = h
-earlier_never (p ∷ ps) h = elim h [ inl x ↦ omega arith | inr x ↦ earlier_never ps x.1 ]
+earlier_never (p ∷ ps) h = grind (arith, earlier_never ps)
 
 module _ {M T : Type 0} (k : Task M T) where
   pub back_wider : (m n : ℕ) (c : List ℕ) → m ≤ n → Back k m c → Back k n c
   back_wider m n [] h i = tt
-  back_wider m n (p ∷ ps) h i = (omega (arith, i.0), i.1, i.2)
+  back_wider m n (p ∷ ps) h i = grind arith
 
   -- a choice up to j stays below j, or its last end is j
   pub back_split : (j : ℕ) (d : List ℕ) → Back k j d → Back k (j - 1) d ⊎ ((e : List ℕ) × (d ≡ j ∷ e) × (k.good j ≡ true) × Back k (j - k.spacing) e)
   back_split j [] h = inl tt
   back_split j (p ∷ ps) h = elim (cases_eq p j) [
-    | inl e ↦ (let Good : ℕ → Type 0 = λ x. k.good x ≡ true in
-        let Rest : ℕ → Type 0 = λ x. Back k (x - k.spacing) ps in
-        inr (ps, ap (λ x. x ∷ ps) e, subst Good e h.1, subst Rest e h.2))
-    | inr n ↦ (let ne : p ≡ j → ⊥ = n in
-        let low : p ≤ j = h.0 in
-        let lower : p ≤ j - 1 = grind arith in
-        inl (lower, h.1, h.2))
+    | inl e ↦ inr (ps, ap (λ x. x ∷ ps) e, grind arith, grind arith)
+    | inr n ↦ inl (grind arith)
   ]
 
   pub back_length : Sound k → (j : ℕ) (c : List ℕ) → Back k j c → length c ≤ j

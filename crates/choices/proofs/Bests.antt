@@ -30,10 +30,7 @@ pub best_greatest : {M T : Type 0} (log : Log) (r : Rules M T) (xs : List ℕ) �
 best_greatest log r xs b = record { some = (xs, b.one, refl); most = b.most }
 
 pub greatest_once : (log : Log) (m n : ℕ) → Greatest log m → Greatest log n → m ≡ n
-greatest_once log m n a b =
-    let x = a.some in
-    let y = b.some in
-    omega (arith, x.2, y.2, a.most y.0 y.1, b.most x.0 x.1)
+greatest_once log m n a b = grind (arith, a.most b.some.0 b.some.1, b.most a.some.0 a.some.1)
 
 module _ {M T : Type 0} (log : Log) (r : Rules M T) (s : Sound (task log r)) where
   pub choice_few : (j : ℕ) (xs : List ℕ) → ChoiceTo log j xs → length xs ≤ j

@@ -1,8 +1,9 @@
 -- A choice in rising order, and the same last end first.
 use Rattle.std.proofs.Common.{◌≡◌, ℕ, ◌+◌, ◌-◌, ◌<◌, ◌≤◌, true, ◌⊎◌, List, [], ◌∷◌, ◌++◌, reverse, length, get_or, drop, sym, refl, ap, ◌∙◌, subst, inl, inr, arith}
 use mathlib.Core.List.{reverse-cons}
-use Rattle.std.proofs.lemmas.List.{reverse-reverse, length-reverse, length_push, get_or_push, get_or_append_left, drop-append-le, drop_all, same_from_push}
+use Rattle.std.proofs.lemmas.List.{reverse-reverse, length-reverse, length_push, get_or_push, get_or_append_left, drop-append-le, same_from_push}
 use Rattle.std.proofs.lemmas.Bool.{cases_lt}
+use Rattle.std.proofs.lemmas.Grind.{common_steps}
 use Rattle.model.specs.Log.{Log}
 use Rattle.model.specs.Choices.{From, spacing}
 use Rattle.model.specs.Sheets.{good}
@@ -17,28 +18,20 @@ abbrev pub task : {M T : Type 0} → Log → Rules M T → Task M T
 task log r = record { rules = r; good = good log; spacing = spacing log; mark = mark_of log r }
 
 sooner_here : (xs ys : List ℕ) (p q : ℕ) → length xs ≡ length ys → p < q → Sooner (xs ++ (p ∷ [])) (ys ++ (q ∷ []))
-sooner_here xs ys p q e h =
-    let a : get_or (xs ++ (p ∷ [])) (length xs) 0 ≡ p = get_or_push xs p 0 (length xs) refl in
-    let b : get_or (ys ++ (q ∷ [])) (length xs) 0 ≡ q = get_or_push ys q 0 (length xs) (sym e) in
-    record {
-      at = length xs;
-      within = simp length_push (omega arith);
-      earlier = omega (arith, a, b);
-      behind = drop_all (length xs + 1) (xs ++ (p ∷ [])) (simp length_push (omega arith)) ∙ sym (drop_all (length xs + 1) (ys ++ (q ∷ [])) (simp length_push (omega arith)));
-    }
+sooner_here xs ys p q e h = record {
+  at = length xs;
+  within = grind (arith, common_steps);
+  earlier = grind (arith, common_steps);
+  behind = grind (arith, common_steps);
+}
 
 sooner_more : (xs ys : List ℕ) (p q : ℕ) → length xs ≡ length ys → p ≡ q → Sooner xs ys → Sooner (xs ++ (p ∷ [])) (ys ++ (q ∷ []))
-sooner_more xs ys p q e h s =
-    let low : s.at < length xs = s.within in
-    let low' : s.at < length ys = omega arith in
-    record {
-      at = s.at;
-      within = simp length_push (omega arith);
-      earlier = simp get_or_append_left s.earlier;
-      behind =
-          drop-append-le (s.at + 1) xs (p ∷ []) (omega arith) ∙ ap (λ x. x ++ (p ∷ [])) s.behind
-          ∙ ap (λ n. drop (s.at + 1) ys ++ (n ∷ [])) h ∙ sym (drop-append-le (s.at + 1) ys (q ∷ []) (omega arith));
-    }
+sooner_more xs ys p q e h s = record {
+  at = s.at;
+  within = grind (arith, common_steps, s.within);
+  earlier = grind (arith, common_steps, s.earlier, s.within);
+  behind = grind (arith, common_steps, s.behind, s.within);
+}
 
 pub sooner : (c d : List ℕ) → length d ≡ length c → Earlier c d → Sooner (reverse c) (reverse d)
 sooner [] d e h = absurd h
@@ -80,11 +73,11 @@ earlier (p ∷ ps) (q ∷ qs) e s =
 
 up_wider : (m n : ℕ) (xs : List ℕ) → m ≤ n → UpTo m xs → UpTo n xs
 up_wider m n [] h u = tt
-up_wider m n (x ∷ xs) h u = (omega (arith, u.0), up_wider m n xs h u.1)
+up_wider m n (x ∷ xs) h u = grind (arith, up_wider m n xs)
 
 up_push : (j p : ℕ) (xs : List ℕ) → p ≤ j → UpTo p xs → UpTo j (xs ++ (p ∷ []))
 up_push j p [] h u = (h, tt)
-up_push j p (x ∷ xs) h u = (omega (arith, u.0), up_push j p xs h u.1)
+up_push j p (x ∷ xs) h u = grind (arith, up_push j p xs)
 
 up_last : (j p : ℕ) (xs : List ℕ) → UpTo j (xs ++ (p ∷ [])) → p ≤ j
 up_last j p [] u = u.0
@@ -94,15 +87,12 @@ module _ {M T : Type 0} (log : Log) (r : Rules M T) (s : Sound (task log r)) whe
   -- p behind ends that leave it the spacing
   from_push : (from p : ℕ) (xs : List ℕ) → from ≤ p → good log p ≡ true → From log from xs → UpTo (p - spacing log) xs → From log from (xs ++ (p ∷ []))
   from_push from p [] h g c u = (h, g, tt)
-  from_push from p (x ∷ xs) h g c u =
-      (c.0, c.1, from_push (x + spacing log) p xs (omega (arith, u.0, s.inside x c.1)) g c.2 u.1)
+  from_push from p (x ∷ xs) h g c u = grind (arith, s.inside x, from_push (x + spacing log) p xs)
 
   -- the last of a choice, and the others, which leave it the spacing
   from_pop : (from p : ℕ) (xs : List ℕ) → From log from (xs ++ (p ∷ [])) → (from ≤ p) × (good log p ≡ true) × From log from xs × UpTo (p - spacing log) xs
   from_pop from p [] c = (c.0, c.1, tt, tt)
-  from_pop from p (x ∷ xs) c =
-      let i = from_pop (x + spacing log) p xs c.2 in
-      (omega (arith, c.0, i.0), i.1, (c.0, c.1, i.2), (omega (arith, i.0), i.3))
+  from_pop from p (x ∷ xs) c = grind (arith, from_pop (x + spacing log) p xs)
 
   pub forwards : (j : ℕ) (c : List ℕ) → Back (task log r) j c → ChoiceTo log j (reverse c)
   forwards j [] h = (tt, tt)
@@ -132,13 +122,7 @@ module _ {M T : Type 0} (log : Log) (r : Rules M T) (s : Sound (task log r)) whe
   ranked c d = sym (ap (λ t. r.rank t (total log r (reverse d))) (total_reverse c) ∙ ap (r.rank (sum (task log r) c)) (total_reverse d))
 
   before : (c d : List ℕ) → length d ≡ length c → Leads (task log r) c d → Before log r (reverse c) (reverse d)
-  before c d e h = elim h [
-    | inl x ↦ absurd (omega arith)
-    | inr x ↦ elim x.1 [
-      | inl u ↦ inl (sym (ranked c d) ∙ u)
-      | inr u ↦ inr (sym (ranked c d) ∙ u.0, sooner c d e u.1)
-    ]
-  ]
+  before c d e h = grind (arith, ranked c d, sooner c d e)
 
   -- the leading choice up to j is the best of the choices up to j
   pub best_to : (j : ℕ) (c : List ℕ) → Top (task log r) j c → Best log r (ChoiceTo log j) (reverse c)
@@ -148,25 +132,15 @@ module _ {M T : Type 0} (log : Log) (r : Rules M T) (s : Sound (task log r)) whe
       leads ys h = let To : List ℕ → Type 0 = ChoiceTo log j in t.leads (reverse ys) (backwards j (reverse ys) (subst To (sym (reverse-reverse ys)) h))
 
       most : (ys : List ℕ) → ChoiceTo log j ys → length ys ≤ length (reverse c)
-      most ys h =
-          let m = length-reverse c in
-          let n = length-reverse ys in
-          elim (leads ys h) [
-            | inl x ↦ (let e : length (reverse ys) ≡ length c = ap length x in omega arith)
-            | inr x ↦ elim x [ inl u ↦ omega arith | inr u ↦ omega (arith, u.0) ]
-          ]
+      most ys h = grind (arith, leads ys h, length-reverse c, length-reverse ys)
 
       cheapest : (ys : List ℕ) → ChoiceTo log j ys → length ys ≡ length (reverse c) → (ys ≡ reverse c) ⊎ Before log r (reverse c) ys
       cheapest ys h e =
           let many : length (reverse ys) ≡ length c = length-reverse ys ∙ e ∙ length-reverse c in
-          let After : List ℕ → Type 0 = Before log r (reverse c) in
-          elim (leads ys h) [
-            | inl x ↦ inl (sym (reverse-reverse ys) ∙ ap reverse x)
-            | inr x ↦ inr (subst After (reverse-reverse ys) (before c (reverse ys) many x))
-          ]
+          grind (arith, leads ys h, reverse-reverse ys, before c (reverse ys) many)
 
   leads : (c d : List ℕ) → length d ≡ length c → Before log r (reverse c) (reverse d) → Leads (task log r) c d
-  leads c d e h = inr (e, elim h [ inl u ↦ inl (ranked c d ∙ u) | inr u ↦ inr (ranked c d ∙ u.0, earlier c d e u.1) ])
+  leads c d e h = grind (arith, ranked c d, earlier c d e)
 
   -- and the other way round
   pub top_to : (j : ℕ) (c : List ℕ) → Best log r (ChoiceTo log j) (reverse c) → Top (task log r) j c
@@ -174,15 +148,5 @@ module _ {M T : Type 0} (log : Log) (r : Rules M T) (s : Sound (task log r)) whe
     where
       all : (d : List ℕ) → Back (task log r) j d → (d ≡ c) ⊎ Leads (task log r) c d
       all d h =
-          let m = length-reverse c in
-          let n = length-reverse d in
           let f = forwards j d h in
-          elim (cases_lt (length d) (length c)) [
-            | inl l ↦ inr (inl l)
-            | inr l ↦ (let few : length (reverse d) ≤ length (reverse c) = b.most (reverse d) f in
-                let e : length d ≡ length c = omega arith in
-                elim (b.cheapest (reverse d) f (n ∙ e ∙ sym m)) [
-                  | inl x ↦ inl (sym (reverse-reverse d) ∙ ap reverse x ∙ reverse-reverse c)
-                  | inr x ↦ inr (leads c d e x)
-                ])
-          ]
+          grind (arith, length-reverse c, length-reverse d, reverse-reverse c, reverse-reverse d, b.most (reverse d) f, b.cheapest (reverse d) f, leads c d)

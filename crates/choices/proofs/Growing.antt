@@ -1,7 +1,6 @@
 -- The leading choice up to j, from the leading choices before it.
-use Rattle.std.proofs.Common.{◌≡◌, ℕ, zero, suc, ◌-◌, ◌<◌, ◌≤◌, true, ◌⊎◌, List, [], ◌∷◌, length, Ordering, Less, Equal, Greater, sym, refl, ap, ◌∙◌, subst, inl, inr, arith}
+use Rattle.std.proofs.Common.{◌≡◌, ℕ, zero, suc, ◌-◌, ◌<◌, ◌≤◌, true, ◌⊎◌, List, [], ◌∷◌, length, Ordering, Less, Equal, Greater, refl, subst, inl, inr, arith}
 use Rattle.std.proofs.lemmas.Bool.{cases_Bool, cases_lt, cases_order}
-use Rattle.std.specs.Ordering.{ordering_reverse}
 use Rattle.choices.proofs.Backwards.{Task, Sound, Lawful, Back, sum, Earlier, back_wider, back_split}
 use Rattle.choices.proofs.Leading.{Leads, leads_trans, leads_never, leads_more, leads_fewer}
 
@@ -25,19 +24,16 @@ module _ {M T : Type 0} (k : Task M T) (law : Lawful k.rules) where
     leads = λ d h. elim (back_split k j d h) [ inl x ↦ t.leads d x | inr x ↦ absurd (never x.2) ];
   }
 
-  leads_at : (c d e : List ℕ) → d ≡ e → Leads k c e → Leads k c d
-  leads_at c d e p h = let P : List ℕ → Type 0 = Leads k c in subst P (sym p) h
-
   -- j behind the leading choice far enough before it leads all others whose last end is j
   ends_here : (j : ℕ) (e d : List ℕ) → Top k (j - k.spacing) e → Back k (j - k.spacing) d → (j ∷ d ≡ j ∷ e) ⊎ Leads k (j ∷ e) (j ∷ d)
-  ends_here j e d t h = elim (t.leads d h) [ inl x ↦ inl (ap (λ y. j ∷ y) x) | inr x ↦ inr (leads_more k law j e d x) ]
+  ends_here j e d t h = grind (arith, t.leads d h, leads_more k law j e d)
 
   pub top_take : (j : ℕ) (c e : List ℕ) → Top k (j - 1) c → Top k (j - k.spacing) e → k.good j ≡ true → Leads k (j ∷ e) c → Top k j (j ∷ e)
   top_take j c e t u g a = record {
     choice = (omega arith, g, u.choice);
     leads = λ d h. elim (back_split k j d h) [
-      | inl x ↦ inr (elim (t.leads d x) [ inl y ↦ leads_at (j ∷ e) d c y a | inr y ↦ leads_trans k law (j ∷ e) c d a y ])
-      | inr x ↦ elim (ends_here j e x.0 u x.3) [ inl y ↦ inl (x.1 ∙ y) | inr y ↦ inr (leads_at (j ∷ e) d (j ∷ x.0) x.1 y) ]
+      | inl x ↦ grind (arith, t.leads d x, leads_trans k law (j ∷ e) c d)
+      | inr x ↦ grind (arith, x.1, ends_here j e x.0 u x.3)
     ];
   }
 
@@ -46,46 +42,33 @@ module _ {M T : Type 0} (k : Task M T) (law : Lawful k.rules) where
     choice = back_wider k (j - 1) j c (omega arith) t.choice;
     leads = λ d h. elim (back_split k j d h) [
       | inl x ↦ t.leads d x
-      | inr x ↦ inr (leads_at c d (j ∷ x.0) x.1 (elim (ends_here j e x.0 u x.3) [
-        | inl y ↦ leads_at c (j ∷ x.0) (j ∷ e) y a
-        | inr y ↦ leads_trans k law c (j ∷ e) (j ∷ x.0) a y
-      ]))
+      | inr x ↦ grind (arith, x.1, ends_here j e x.0 u x.3, leads_trans k law c (j ∷ e) (j ∷ x.0))
     ];
   }
 
   earlier_than : (j : ℕ) (c e : List ℕ) → 0 < j → Back k (j - 1) c → length (j ∷ e) ≡ length c → Earlier c (j ∷ e)
   earlier_than j [] e z h l = absurd (omega arith)
-  earlier_than j (p ∷ ps) e z h l = inl (omega (arith, h.0))
+  earlier_than j (p ∷ ps) e z h l = grind arith
 
   -- a choice below j that is not beaten by one with the last end j leads it
   pub keeps : (j : ℕ) (c e : List ℕ) → 0 < j → Back k (j - 1) c →
       (length (j ∷ e) < length c) ⊎ ((length (j ∷ e) ≡ length c) × (k.rules.rank (sum k (j ∷ e)) (sum k c) ≡ Less → ⊥)) → Leads k c (j ∷ e)
-  keeps j c e z h t = elim t [ inl x ↦ inl x | inr x ↦ inr (x.0, by_rank x.0 (k.rules.rank (sum k c) (sum k (j ∷ e))) refl x.1) ]
-    where
-      by_rank : length (j ∷ e) ≡ length c → (o : Ordering) → k.rules.rank (sum k c) (sum k (j ∷ e)) ≡ o →
-          (k.rules.rank (sum k (j ∷ e)) (sum k c) ≡ Less → ⊥) →
-          (k.rules.rank (sum k c) (sum k (j ∷ e)) ≡ Less) ⊎ ((k.rules.rank (sum k c) (sum k (j ∷ e)) ≡ Equal) × Earlier c (j ∷ e))
-      by_rank l Less p n = inl p
-      by_rank l Equal p n = inr (p, earlier_than j c e z h l)
-      by_rank l Greater p n = absurd (n (law.order.swap (sum k c) (sum k (j ∷ e)) ∙ ap ordering_reverse p))
+  keeps j c e z h t = let swap = law.order.swap (sum k c) (sum k (j ∷ e)) in grind (arith, earlier_than j c e z h)
 
   pub top_once : (j : ℕ) (c d : List ℕ) → Top k j c → Top k j d → c ≡ d
-  top_once j c d t u = elim (t.leads d u.choice) [
-    | inl x ↦ sym x
-    | inr x ↦ elim (u.leads c t.choice) [ inl y ↦ y | inr y ↦ absurd (leads_never k law c (leads_trans k law c d c x y)) ]
-  ]
+  top_once j c d t u = grind (arith, t.leads d u.choice, u.leads c t.choice, leads_trans k law c d c, leads_never k law c)
 
   pub top_rest : (j p : ℕ) (c : List ℕ) → Top k j (p ∷ c) → Top k (p - k.spacing) c
   top_rest j p c t = record {
     choice = t.choice.2;
-    leads = λ d h. elim (t.leads (p ∷ d) (t.choice.0, t.choice.1, h)) [ inl x ↦ inl (cc) | inr x ↦ inr (leads_fewer k law p c d x) ];
+    leads = λ d h. grind (arith, t.leads (p ∷ d) (t.choice.0, t.choice.1, h), leads_fewer k law p c d);
   }
 
   by_rank : (j : ℕ) (c e : List ℕ) → 0 < j → Top k (j - 1) c → Top k (j - k.spacing) e → k.good j ≡ true → length c ≡ length (j ∷ e) →
       (o : Ordering) → k.rules.rank (sum k (j ∷ e)) (sum k c) ≡ o → (d : List ℕ) × Top k j d
-  by_rank j c e z t u g n Less p = (j ∷ e, top_take j c e t u g (inr (n, inl p)))
-  by_rank j c e z t u g n Equal p = (c, top_keep j c e t u (keeps j c e z t.choice (inr (sym n, λ q. grind arith))))
-  by_rank j c e z t u g n Greater p = (c, top_keep j c e t u (keeps j c e z t.choice (inr (sym n, λ q. grind arith))))
+  by_rank j c e z t u g n Less p = (j ∷ e, top_take j c e t u g (grind arith))
+  by_rank j c e z t u g n Equal p = (c, top_keep j c e t u (keeps j c e z t.choice (grind arith)))
+  by_rank j c e z t u g n Greater p = (c, top_keep j c e t u (keeps j c e z t.choice (grind arith)))
 
   top_next : (j : ℕ) (c e : List ℕ) → 0 < j → Top k (j - 1) c → Top k (j - k.spacing) e → (d : List ℕ) × Top k j d
   top_next j c e z t u = elim (cases_Bool (k.good j)) [

@@ -1,5 +1,6 @@
 pub mod Backwards
 pub mod Bests
+pub mod Computed
 pub mod Forwards
 pub mod Growing
 pub mod Leading

@@ -2,7 +2,6 @@
 use Rattle.std.proofs.Common.{◌≡◌, ℕ, ◌+◌, ◌-◌, ◌<◌, ◌≤◌, true, ◌⊎◌, List, [], ◌∷◌, ◌++◌, reverse, length, Less, sym, refl, ap, ◌∙◌, subst, inl, inr, arith}
 use mathlib.Core.List.{reverse-cons}
 use Rattle.std.proofs.lemmas.List.{reverse-reverse, length-reverse, length_push, get_or_push}
-use Rattle.std.proofs.lemmas.Bool.{cases_order}
 use Rattle.model.specs.Log.{Log}
 use Rattle.model.specs.Choices.{spacing}
 use Rattle.model.specs.Sheets.{good}
@@ -123,13 +122,7 @@ module _ {M T : Type 0} (log : Log) (r : Rules M T) (s : Sound (task log r)) (la
       ranks = ap (λ a. r.rank a v.total) added ∙ ap (r.rank (sum k (j ∷ e))) pv.sum
 
       taken : Beats r.rank x v → Leads k (j ∷ e) c
-      taken b = elim b [
-        | inl y ↦ inl (omega (arith, more, pv.sheets))
-        | inr y ↦ inr (omega (arith, more, pv.sheets, y.0), inl (sym ranks ∙ y.1))
-      ]
+      taken b = grind (arith, more, pv.sheets, ranks)
 
       kept : (Beats r.rank x v → ⊥) → (length (j ∷ e) < length c) ⊎ ((length (j ∷ e) ≡ length c) × (r.rank (sum k (j ∷ e)) (sum k c) ≡ Less → ⊥))
-      kept never = elim (cases_order v.sheets x.sheets) [
-        | inl y ↦ inr (omega (arith, more, pv.sheets), λ q. never (inr (y, ranks ∙ q)))
-        | inr y ↦ elim y [ inl i ↦ absurd (never (inl i)) | inr i ↦ inl (omega (arith, more, pv.sheets)) ]
-      ]
+      kept never = grind (arith, more, pv.sheets, ranks, never)

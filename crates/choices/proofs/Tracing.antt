@@ -1,6 +1,7 @@
 -- The ends of the best choice, as they are written from the last backwards.
 use Rattle.std.proofs.Common.{◌≡◌, ℕ, ◌+◌, ◌-◌, ◌<◌, ◌≤◌, true, List, [], ◌∷◌, ◌++◌, length, get_or, take, drop, set, sym, ap, ◌∙◌, subst, arith, length-set}
 use Rattle.std.proofs.lemmas.List.{take_all, take_at, take_more, length-take-le, drop_all, drop_more, drop-set, drop_at, get_or-take}
+use Rattle.std.proofs.lemmas.Grind.{common_steps}
 use Rattle.model.specs.Log.{Log}
 use Rattle.model.specs.Choices.{spacing}
 use Rattle.model.specs.Sheets.{good}
@@ -80,11 +81,7 @@ module _ {M T : Type 0} (log : Log) (r : Rules M T) (s : Sound (task log r)) (la
         within = omega (arith, t.within, traced_last.1);
         few = omega (arith, t.few);
         room = simp length-set t.room;
-        written =
-            drop-set after (left - 1) w.last low ∙ ap (λ n. w.last ∷ drop n after) z ∙ ap (λ xs. w.last ∷ xs) t.written
-            ∙ ap (λ p. p ∷ (drop left chosen ++ drop (length chosen) before)) last_is
-            ∙ ap (λ n. get_or chosen (left - 1) 0 ∷ (drop n chosen ++ drop (length chosen) before)) (sym z)
-            ∙ ap (λ xs. xs ++ drop (length chosen) before) (sym (drop_more chosen (left - 1) 0 (omega (arith, t.few))));
+        written = grind (arith, common_steps, t.written, last_is, drop-set after (left - 1) w.last low, drop_more chosen (left - 1) 0 (omega (arith, t.few)));
       }
 
 module _ {M T : Type 0} (log : Log) (r : Rules M T) (before : List ℕ) (v : WorkPlace T) where

@@ -4,15 +4,10 @@ ghost use Rattle.criteria.specs.Examples.{examples};
 ghost use Rattle.model.specs.Examples.{holds};
 
 // Whether every worked example comes out as the rules' page says.
+#[tactic(auto, using(crate::proofs::Computed::all_hold))]
 pub fn criteria_examples_hold() -> bool
     ensures value { result ≡ holds examples }
     ensures hold { holds examples ≡ true }
 {
-    compute();
     true
 }
-
-// The checker computes the examples here.
-fn compute()
-    ensures { holds examples ≡ true }
-{}

@@ -7,6 +7,7 @@ ghost use Rattle.criteria.specs.Orders.{ordered_sums};
 ghost use Rattle.std.proofs.Common.{rules};
 
 use crate::criterion::Criterion;
+use std::array;
 use std::cmp::Ordering;
 
 // By eight sums, compared from parameter 1 on.
@@ -38,34 +39,16 @@ impl Criterion for Ladder {
         raised(total, mark)
     }
 
+    #[tactic(auto, using(crate::proofs::Sums::compared))]
     fn compare(&self, a: [u32; 8], b: [u32; 8]) -> Ordering {
-        by_sums(a, b)
+        a.cmp(&b)
     }
 }
 
-// Each sum with its count more.
+// Each sum with its count more. Apart from `add`, whose bugs would else show in the proof of the closure's calls alone.
 fn raised(total: [u32; 8], mark: [u16; 8]) -> [u32; 8]
     ensures value { (n : ℕ) → n < most_marks → SumsOf n total → Marked ladder mark → result ≡ ladder.add total mark }
     ensures held { (n : ℕ) → n < most_marks → SumsOf n total → Marked ladder mark → SumsOf (n + 1) result }
 {
-    let mut sums = total;
-    for i in 0..8 {
-        sums[i] = sums[i].saturating_add(mark[i] as u32);
-    }
-    sums
-}
-
-// By the first sums that differ.
-fn by_sums(a: [u32; 8], b: [u32; 8]) -> Ordering
-    ensures { result ≡ by_sums 0 8 a b }
-{
-    for i in 0..8 {
-        if a[i] < b[i] {
-            return Ordering::Less;
-        }
-        if b[i] < a[i] {
-            return Ordering::Greater;
-        }
-    }
-    Ordering::Equal
+    array::from_fn(|i| total[i].saturating_add(mark[i] as u32))
 }

@@ -43,9 +43,7 @@ impl<A: Criterion, B: Criterion> Criterion for Ranked<A, B> {
     }
 
     fn compare(&self, a: (A::Total, B::Total), b: (A::Total, B::Total)) -> Ordering {
-        match self.first.compare(a.0, b.0) {
-            Ordering::Equal => self.second.compare(a.1, b.1),
-            decided => decided,
-        }
+        let first = self.first.compare(a.0, b.0);
+        first.then_with(|| self.second.compare(a.1, b.1))
     }
 }

@@ -18,12 +18,20 @@ pub enum Class {
 }
 
 // How many sheets are of each class.
-#[derive(Clone, Copy, PartialEq, Eq, Debug)]
+#[derive(Clone, Copy, PartialEq, Eq, Default, Debug)]
 pub struct Classes {
     pub a: u32,
     pub b: u32,
     pub c: u32,
     pub d: u32,
+}
+
+impl Classes {
+    fn worst_first(self) -> [u32; 4]
+        ensures { result ≡ worst_first self }
+    {
+        [self.d, self.c, self.b, self.a]
+    }
 }
 
 // By the number of sheets of each class, compared D first, then C, B and A.
@@ -45,11 +53,7 @@ fn class_of(worst: u16, sheet: u16) -> Class
 fn greatest(counts: &[u16; 8]) -> u16
     ensures { result ≡ greatest counts.now }
 {
-    let mut most: u16 = 0;
-    for count in counts {
-        most = most.max(*count);
-    }
-    most
+    counts.iter().copied().fold(0, u16::max)
 }
 
 impl Criterion for Tally {
@@ -70,27 +74,21 @@ impl Criterion for Tally {
     }
 
     fn none(&self) -> Classes {
-        Classes {
-            a: 0,
-            b: 0,
-            c: 0,
-            d: 0,
-        }
+        Classes::default()
     }
 
-    fn add(&self, total: Classes, mark: Class) -> Classes {
-        let mut sums = total;
+    fn add(&self, mut total: Classes, mark: Class) -> Classes {
         match mark {
-            Class::A => sums.a = total.a.saturating_add(1),
-            Class::B => sums.b = total.b.saturating_add(1),
-            Class::C => sums.c = total.c.saturating_add(1),
-            Class::D => sums.d = total.d.saturating_add(1),
+            Class::A => total.a = total.a.saturating_add(1),
+            Class::B => total.b = total.b.saturating_add(1),
+            Class::C => total.c = total.c.saturating_add(1),
+            Class::D => total.d = total.d.saturating_add(1),
         }
-        sums
+        total
     }
 
+    #[tactic(auto, using(crate::proofs::Sums::compared))]
     fn compare(&self, a: Classes, b: Classes) -> Ordering {
-        let worst = a.d.cmp(&b.d).then(a.c.cmp(&b.c));
-        worst.then(a.b.cmp(&b.b)).then(a.a.cmp(&b.a))
+        a.worst_first().cmp(&b.worst_first())
     }
 }

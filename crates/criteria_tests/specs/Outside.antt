@@ -1,5 +1,5 @@
 -- Criteria from outside the library.
-use Rattle.std.specs.Prelude.{ℕ, ◌+◌, ◌*◌, max, List, [], ◌∷◌, slice_index}
+use Rattle.std.specs.Prelude.{ℕ, ◌+◌, ◌*◌, max, List, sum_by, slice_index}
 use Rattle.std.specs.declared.cmp.Ordering.TheVariants.{Equal}
 use Rattle.criteria.specs.Law.{Rules}
 use Rattle.criteria.specs.Sums.{by_number}
@@ -9,8 +9,7 @@ abbrev pub indifferent : Rules ℕ ℕ
 indifferent = record { mark = λ l b. 1; none = 0; add = λ t m. t + 1; rank = λ t u. Equal }
 
 abbrev pub squares : List ℕ → ℕ
-squares [] = 0
-squares (x ∷ xs) = x * x + squares xs
+squares xs = sum_by (λ x. x * x) xs
 
 abbrev pub by_squares : Rules ℕ ℕ
 by_squares = record { mark = λ l b. squares b; none = 0; add = λ t m. t + m; rank = by_number }

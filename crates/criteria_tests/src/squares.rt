@@ -40,6 +40,7 @@ impl Criterion for Squares {
     }
 }
 
+// Apart from `add`, where the check does not find that a mark is small.
 fn sum(total: u64, mark: u64) -> u64
     ensures value { (n : ℕ) → n < most_marks → total ≤ n * 134217728 → Marked by_squares mark → result ≡ total + mark }
     ensures held { (n : ℕ) → n < most_marks → total ≤ n * 134217728 → Marked by_squares mark → result ≤ (n + 1) * 134217728 }
@@ -50,16 +51,11 @@ fn sum(total: u64, mark: u64) -> u64
 fn sum_of_squares(counts: &[u16; 8]) -> u64
     ensures { result ≡ squares counts.now }
 {
-    let mut sum: u64 = 0;
-    for count in counts {
-        sum += square(*count);
-    }
-    sum
+    counts.iter().map(|&count| square(count) as u64).sum()
 }
 
-fn square(count: u16) -> u64
-    ensures value { result ≡ count * count }
-    ensures few { result ≤ 4294836225 }
+fn square(count: u16) -> u32
+    ensures { result ≡ count * count }
 {
-    count as u64 * count as u64
+    count as u32 * count as u32
 }

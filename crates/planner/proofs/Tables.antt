@@ -1,6 +1,7 @@
 -- The work table while it is filled.
-use Rattle.std.proofs.Common.{◌≡◌, ℕ, ◌+◌, ◌-◌, ◌<◌, ◌≤◌, true, ◌≢◌, ◌⊎◌, List, length, get_or, drop, set, sym, refl, ap, ◌∙◌, subst, inl, inr, arith, length-set, below_more}
-use Rattle.std.proofs.lemmas.List.{get_or_read, get_or-set_same, get_or-set_other, drop-drop, drop-set-lt}
+use Rattle.std.proofs.Common.{◌≡◌, ℕ, ◌+◌, ◌-◌, ◌<◌, ◌≤◌, true, ◌⊎◌, List, length, get_or, drop, set, sym, refl, ◌∙◌, subst, inl, inr, arith, length-set}
+use Rattle.std.proofs.lemmas.List.{get_or_read, drop-set-lt}
+use Rattle.std.proofs.lemmas.Grind.{common_steps}
 use Rattle.model.specs.Log.{Log}
 use Rattle.model.specs.Choices.{spacing}
 use Rattle.model.specs.Sheets.{good}
@@ -33,20 +34,15 @@ module _ {M T : Type 0} (log : Log) (r : Rules M T) (H : ℕ → T → Type 0) w
   pub below_one : (before : List (WorkPlace T)) (x : WorkPlace T) → 0 < length before → Held log r H 0 x → Below log r H (set before 0 x) (set before 0 x) 1
   below_one before x h held = record {
     many = refl;
-    places = λ i l.
-        let At : ℕ → Type 0 = λ n. Held log r H n (get_or (set before 0 x) n (blank r)) in
-        let z : 0 ≡ i = omega arith in
-        subst At z (rw get_or-set_same held);
+    places = λ i l. grind (arith, common_steps, held);
     beyond = refl;
   }
 
   pub below_next : (before after : List (WorkPlace T)) (j : ℕ) (x : WorkPlace T) → Below log r H before after j → j < length after → Held log r H j x → Below log r H before (set after j x) (j + 1)
   below_next before after j x b h held = record {
     many = length-set after j x ∙ b.many;
-    places = below_more (λ i. Held log r H i (get_or (set after j x) i (blank r))) j
-        (λ i l. let ne : i ≢ j = omega arith in rw get_or-set_other (b.places i l))
-        (rw get_or-set_same held);
-    beyond = drop-set-lt (j + 1) after j x (omega arith) ∙ sym (drop-drop 1 j after) ∙ ap (drop 1) b.beyond ∙ drop-drop 1 j before;
+    places = λ i l. grind (arith, common_steps, held, b.places i, b.many);
+    beyond = grind (arith, common_steps, b.beyond);
   }
 
   pub filled : (before after : List (WorkPlace T)) (x : WorkPlace T) (j : ℕ) → log.roll.cells < length before → j ≡ log.roll.cells + 1 → Below log r H (set before 0 x) after j → Filled log r before after
@@ -59,14 +55,18 @@ module _ {M T : Type 0} (log : Log) (r : Rules M T) (H : ℕ → T → Type 0) w
         beyond = subst Rest e b.beyond ∙ drop-set-lt (log.roll.cells + 1) before 0 x (omega arith);
       }
 
-pub read_tells : {M T : Type 0} (log : Log) (r : Rules M T) (before after : List (WorkPlace T)) (i : ℕ) (x : WorkPlace T) → Filled log r before after → i ≤ log.roll.cells → x ≡ get_or after i x → Tells log r i x
-read_tells {M} {T} log r before after i x f h e =
-    let At : WorkPlace T → Type 0 = Tells log r i in
-    subst At (sym (get_or_read after i x (omega (arith, f.room)) e (blank r))) (f.places i h)
+-- what a read of the last cell's place gives
+pub read_last : {M T : Type 0} (log : Log) (r : Rules M T) (before after : List (WorkPlace T)) (i : ℕ) (x : WorkPlace T) → Filled log r before after → i ≡ log.roll.cells → x ≡ get_or after i x → Tells log r log.roll.cells x
+read_last {M} {T} log r before after i x f h e =
+    let Place : WorkPlace T → Type 0 = Tells log r i in
+    let At : ℕ → Type 0 = λ n. Tells log r n x in
+    subst At h (subst Place (sym (get_or_read after i x (omega (arith, f.room)) e (blank r))) (f.places i (omega arith)))
 
 module _ {M T : Type 0} (log : Log) (r : Rules M T) (s : Sound (task log r)) (law : Lawful r) (H : ℕ → T → Type 0) where
-  pub held_none : (w : WorkPlace T) → w.sheets ≡ 0 → w.total ≡ r.none → w.last ≡ 0 → H w.sheets w.total → Held log r H 0 w
-  held_none w n t l h = record { tells = tells_none log r s law w n t l; held = h }
+  pub held_none : (none : T) (w : WorkPlace T) → w ≡ record { sheets = 0; total = none; last = 0 } → none ≡ r.none → H 0 none → Held log r H 0 w
+  held_none none w e n h =
+      let At : WorkPlace T → Type 0 = Held log r H 0 in
+      subst At (sym e) (record { tells = tells_none log r s law _ refl n refl; held = h })
 
   pub held_skip : (j : ℕ) (w : WorkPlace T) → (good log j ≡ true → ⊥) → Held log r H (j - 1) w → Held log r H j w
   held_skip j w never h = record { tells = tells_skip log r s law j w never h.tells; held = h.held }

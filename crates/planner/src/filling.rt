@@ -1,7 +1,7 @@
 // Filling the work table: place after place the best choice of ends up to there.
 ghost use Rattle.std.specs.Prelude.{◌≡◌, ℕ, ◌+◌, ◌-◌, ◌<◌, ◌⊎◌, length, MatchResult};
 ghost use Rattle.choices.specs.Table.{Beats, Filled};
-ghost use Rattle.criteria.specs.Law.{Asked, most_marks};
+ghost use Rattle.criteria.specs.Law.{Marked, most_marks};
 ghost use Rattle.model.specs.Refusals.{decide, decision};
 ghost use Rattle.planner.specs.Planning.{fill_checks};
 ghost use Rattle.sheets.specs.Logs.{log_of};
@@ -37,33 +37,26 @@ fn better<C: Criterion>(
 ) -> WorkPlace<C::Total>
     ensures { ((result ≡ taken) × Beats (C.rules criterion.now).rank taken kept) ⊎ ((result ≡ kept) × (Beats (C.rules criterion.now).rank taken kept → ⊥)) }
 {
-    if taken.sheets > kept.sheets {
-        return taken;
-    }
-    if taken.sheets < kept.sheets {
-        return kept;
-    }
-    match criterion.compare(taken.total, kept.total) {
+    let more = kept.sheets.cmp(&taken.sheets);
+    match more.then_with(|| criterion.compare(taken.total, kept.total)) {
         Ordering::Less => taken,
         _ => kept,
     }
 }
 
-// The choice of a place with one sheet more, which ends at `end`.
+// The choice of a place with one sheet more, of that mark and ending at `end`.
 fn extended<C: Criterion>(
     criterion: &C,
     before: WorkPlace<C::Total>,
-    sheet: u16,
-    counts: &[u16; 8],
+    mark: C::Mark,
     end: u32,
 ) -> WorkPlace<C::Total>
     requires { before.sheets < most_marks }
     ensures sheets { result.sheets ≡ before.sheets + 1 }
     ensures last { result.last ≡ end }
-    ensures sum { C.held criterion.now before.sheets before.total → Asked sheet counts.now → result.total ≡ (C.rules criterion.now).add before.total ((C.rules criterion.now).mark sheet counts.now) }
-    ensures held { C.held criterion.now before.sheets before.total → Asked sheet counts.now → C.held criterion.now result.sheets result.total }
+    ensures sum { C.held criterion.now before.sheets before.total → Marked (C.rules criterion.now) mark → result.total ≡ (C.rules criterion.now).add before.total mark }
+    ensures held { C.held criterion.now before.sheets before.total → Marked (C.rules criterion.now) mark → C.held criterion.now result.sheets result.total }
 {
-    let mark = criterion.mark(sheet, counts);
     WorkPlace {
         sheets: before.sheets + 1,
         total: criterion.add(before.total, mark),
@@ -71,7 +64,7 @@ fn extended<C: Criterion>(
     }
 }
 
-// Fills the table for the roll; 14 and 15 leave it as it was.
+// Fills the table for the roll; a refusal leaves it as it was. Roll and recipe stand side by side, as in `sheets`.
 pub(crate) fn fill<C: Criterion>(
     roll: &Roll,
     recipe: &Recipe,
@@ -87,17 +80,15 @@ pub(crate) fn fill<C: Criterion>(
     if work.len() < places {
         return Err(Refusal::WorkTooShort);
     }
-    work[0] = WorkPlace {
-        sheets: 0,
-        total: criterion.none(),
-        last: 0,
-    };
+    work[0] = WorkPlace::blank(criterion.none());
+    // By index: each place looks one sheet back in the same table.
     for j in 1..places {
         let kept = work[j - 1];
         let before = work[behind(j, size)];
         work[j] = match scan.next_end() {
             Some(sheet) if sheet.good => {
-                let taken = extended(criterion, before, size.sheet, &sheet.counts, j as u32);
+                let mark = criterion.mark(size.sheet, &sheet.counts);
+                let taken = extended(criterion, before, mark, j as u32);
                 better(criterion, kept, taken)
             }
             _ => kept,

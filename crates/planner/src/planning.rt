@@ -22,6 +22,16 @@ pub struct Ticket {
 }
 
 impl Ticket {
+    fn issued(size: Size, sheets: u32) -> Self
+        ensures { result ≡ record { cells = size.cells; span = size.sheet; sheets = sheets } }
+    {
+        Ticket {
+            cells: size.cells,
+            span: size.sheet,
+            sheets,
+        }
+    }
+
     // The cells of the roll.
     pub fn cells(&self) -> u16
         ensures { result ≡ self.now.cells }
@@ -52,7 +62,7 @@ pub struct Planned<T> {
     pub ticket: Ticket,
 }
 
-// 16 where there are fewer places than sheets.
+// Whether there are places for so many sheets.
 fn room(sheets: u32, places: usize) -> Result<(), Refusal>
     ensures { decision result ≡ decide (room_check places sheets ∷ []) }
 {
@@ -62,21 +72,12 @@ fn room(sheets: u32, places: usize) -> Result<(), Refusal>
     Ok(())
 }
 
+// Apart, so that its contract says that no other place is written.
 fn put(ends: &mut [u32], k: usize, end: u32)
     requires { k < length ends.old }
     ensures { ends.new ≡ slice_set ends.old k end }
 {
     ends[k] = end;
-}
-
-fn issued(size: Size, sheets: u32) -> Ticket
-    ensures { result ≡ record { cells = size.cells; span = size.sheet; sheets = sheets } }
-{
-    Ticket {
-        cells: size.cells,
-        span: size.sheet,
-        sheets,
-    }
 }
 
 // Writes the ends of the best choice into the first places for ends, and into each work place the best choice up to there.
@@ -97,6 +98,7 @@ pub fn plan<C: Criterion>(
     let best = work[size.cells as usize];
     room(best.sheets, ends.len())?;
     let mut at = size.cells as usize;
+    // By index: of the places that `iter_mut().rev()` gives, nothing is known once they are written.
     for left in (0..best.sheets as usize).rev() {
         let last = work[at].last;
         put(ends, left, last);
@@ -105,6 +107,6 @@ pub fn plan<C: Criterion>(
     Ok(Planned {
         sheets: best.sheets,
         total: best.total,
-        ticket: issued(size, best.sheets),
+        ticket: Ticket::issued(size, best.sheets),
     })
 }

@@ -11,7 +11,8 @@ mod two;
 use choices::work::WorkPlace;
 use model::reading::Reading;
 
-// What an unused place holds in these tests.
+// What an unused place holds in these tests, as in the foundation's: a constant that two crates of tests share would be a
+// library's.
 pub(crate) const BLANK: Reading = Reading {
     parameter: 9,
     position: 9,

@@ -10,6 +10,8 @@ use roll::Roll;
 use sheets::count;
 use std::test::Fail;
 
+// The foundation's tests record it too: one function for both would be a library's, with a contract that says these
+// calls again.
 pub(crate) fn record(roll: &mut Roll, recipe: &mut Recipe) -> Result<(), Refusal> {
     roll.new(10, 3, 1)?;
     recipe.limits(1, 1.0, 2.0, 400)?;
@@ -53,8 +55,8 @@ fn the_cheapest_and_earliest_is_planned(rt: HostRuntime) -> Result<(), Fail> {
     assert_eq!(rt; (planned.sheets, planned.total), (2, 1));
     assert_eq!(rt; (planned.ticket.cells(), planned.ticket.sheet()), (10, 3));
     assert_eq!(rt; planned.ticket.sheets(), 2);
-    for position in 0..11 {
-        assert_eq!(rt; work[position], expected(position));
+    for (position, place) in work[..11].iter().enumerate() {
+        assert_eq!(rt; *place, expected(position));
     }
     assert_eq!(rt; work[11], UNUSED);
     let (sheets, _looks) = count(&roll, &recipe)?;

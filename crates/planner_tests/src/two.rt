@@ -13,6 +13,7 @@ use roll::Roll;
 use std::alloc::Global;
 use std::test::Fail;
 
+// As in the foundation's tests, for the reason that stands beside the sample.
 fn record(roll: &mut Roll, recipe: &mut Recipe) -> Result<(), Refusal> {
     roll.new(3, 2, 2)?;
     for (parameter, position, value) in [(1, 0, 3.0), (1, 2, 1.5), (2, 1, 1.5), (2, 3, 3.0)] {

@@ -1,11 +1,5 @@
-use Rattle.std.proofs.Common.{◌*◌, ◌≤◌, refl, mul-le-mul, arith}
+use Rattle.std.proofs.Common.{◌*◌, ◌≤◌, mul-le-mul, arith}
 use Rattle.criteria_tests.proofs.squares.square.Goals as goal
-
-pub returns : goal.returns
-returns c =
-    let small : c.args.count ≤ 65535 = omega arith in
-    let few : c.args.count * c.args.count ≤ 65535 * 65535 = mul-le-mul small small in
-    record { value = refl; few = omega arith }
 
 pub overflow_mul-result : goal.overflow_mul-result
 overflow_mul-result c =

@@ -1,4 +1,4 @@
-use Rattle.std.proofs.Common.{◌≡◌, ℕ, ◌-◌, ◌<◌, Bool, List, [], ◌∷◌, length, get_or, take, set, sym, refl, ap, ◌∙◌, subst, arith, rules}
+use Rattle.std.proofs.Common.{◌≡◌, ℕ, ◌-◌, Bool, List, [], ◌∷◌, length, get_or, take, set, sym, refl, ap, ◌∙◌, subst, arith}
 use Rattle.std.proofs.lemmas.List.{get_or_default, length-take-le}
 use Rattle.std.proofs.lemmas.Result.{err_from_is_err_and}
 use Rattle.model.specs.Choices.{Choice, Greatest}
@@ -13,7 +13,7 @@ use Rattle.choices.proofs.Tracing.{Trace, trace_all, trace_more, trace_none}
 use Rattle.sheets.specs.Logs.{log_of}
 use Rattle.planner.specs.Planning.{TableAfter, plan_checks, room_check}
 use Rattle.planner.proofs.Checks.{decided_by_ends, decided_by_table, enough_room, for_ends, not_for_ends}
-use Rattle.planner.proofs.Tables.{read_tells}
+use Rattle.planner.proofs.Tables.{read_last}
 use Rattle.planner.proofs.planning.plan.Goals as goal
 
 pub returns-in_err-fill : goal.returns-in_err-fill
@@ -22,7 +22,7 @@ returns-in_err-fill g c =
     let r = g.C.Criterion.rules c.args.criterion.now in
     let s = c.args.criterion.now in
     let law : Lawful r = record { order = g.met.C.Criterion.order s; adding = g.met.C.Criterion.adding s } in
-    let best = best_some log r (sound log r c.args.roll.now.piece.0) law in
+    let best = best_some log r (sound log r c.args.roll.now.size.piece.0) law in
     let works = length c.args.work.now in
     let rooms = length c.args.ends.now in
     let e = c.in_err-fill.field-0.0 in
@@ -41,10 +41,8 @@ returns-in_err-room g c =
     let log : Log = log_of c.args.roll.now c.args.recipe.now in
     let r = g.C.Criterion.rules c.args.criterion.now in
     let x = c.index-work-size.result in
-    let cells : c.size-size.result.cells ≡ log.roll.cells = c.size-size.ensures.cells in
     let table = c.in_ok-fill.ensures.table in
-    let At : ℕ → Type 0 = λ n. Tells log r n x in
-    let told-last : Tells log r log.roll.cells x = subst At cells (read_tells log r c.args.work.now c.fill.new.work c.size-size.result.cells x table (omega arith) c.index-work-size.is) in
+    let told-last = read_last log r c.args.work.now c.fill.new.work c.size-size.result.cells x table c.size-size.ensures.cells c.index-work-size.is in
     let rooms = length c.args.ends.now in
     let works = length c.args.work.now in
     let e = c.in_err-room.field-0.0 in
@@ -68,23 +66,10 @@ loop-left-init g c =
     let log : Log = log_of c.args.roll.now c.args.recipe.now in
     let r = g.C.Criterion.rules c.args.criterion.now in
     let x = c.index-work-size.result in
-    let cells : c.size-size.result.cells ≡ log.roll.cells = c.size-size.ensures.cells in
-    let At : ℕ → Type 0 = λ n. Tells log r n x in
-    let told : Tells log r log.roll.cells x = subst At cells (read_tells log r c.args.work.now c.fill.new.work c.size-size.result.cells x c.in_ok-fill.ensures.table (omega arith) c.index-work-size.is) in
+    let cells = c.size-size.ensures.cells in
+    let told = read_last log r c.args.work.now c.fill.new.work c.size-size.result.cells x c.in_ok-fill.ensures.table cells c.index-work-size.is in
     let From : ℕ → Type 0 = λ n. Trace log r c.args.ends.now c.args.ends.now x n x.sheets in
     subst From (sym cells) (trace_none log r c.args.ends.now x told (enough_room (length c.args.ends.now) x.sheets c.in_ok-room.ensures))
-
-pub offset_bounds-work-at : goal.offset_bounds-work-at
-offset_bounds-work-at g c =
-    let table = c.in_ok-fill.ensures.table in
-    let h : c.loop-left.at < length c.args.work.now = omega (arith, c.loop-left.invariant.traced.within, table.room, table.many) in
-    search rules
-
-pub bounds-work-at : goal.bounds-work-at
-bounds-work-at g c = omega (arith, c.loop-left.invariant.traced.within, c.in_ok-fill.ensures.table.room)
-
-pub bounds-work-at-in-loop-left : goal.bounds-work-at-in-loop-left
-bounds-work-at-in-loop-left g c = omega (arith, c.loop-left.invariant.traced.within, c.in_ok-fill.ensures.table.room)
 
 pub loop-left-preserved : goal.loop-left-preserved
 loop-left-preserved g c =
@@ -105,7 +90,7 @@ loop-left-preserved g c =
     subst Into (sym c.put.ensures)
     (subst From back
     (trace_more log r c.args.ends.now v c.loop-left.ends c.loop-left.at c.loop-left.left w
-    (sound log r c.args.roll.now.piece.0) law c.loop-left.invariant (omega arith) told_here))
+    (sound log r c.args.roll.now.size.piece.0) law c.loop-left.invariant (omega arith) told_here))
 
 pub returns : goal.returns
 returns g c =

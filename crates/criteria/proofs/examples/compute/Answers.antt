@@ -1,8 +1,0 @@
-use Rattle.std.proofs.Common.{refl}
-use lib.Ieee.{lt, le, eq, is_nan, of_bits, of_fields}
-use Rattle.std.specs.Float.{float_is_finite}
-use Rattle.criteria.proofs.examples.compute.Goals as goal
-
-pub returns : goal.returns
-unfolding lt le eq is_nan of_bits of_fields float_is_finite
-returns c = refl
