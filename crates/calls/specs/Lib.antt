@@ -4,3 +4,4 @@ pub mod Events
 pub mod OneOf
 pub mod Replay
 pub mod OneOfLaws
+pub mod Jobs

@@ -38,6 +38,5 @@ one_of r s (Second c) = record {
 -- a total of the criterion that was chosen
 abbrev pub held_by : {A B T U : Type 0} → (A → ℕ → T → Type 0) → (B → ℕ → U → Type 0) → OneOf A B → ℕ → OneOf T U → Type 0
 held_by h k (First a) n (First t) = h a n t
-held_by h k (First a) n (Second u) = ⊥
-held_by h k (Second b) n (First t) = ⊥
 held_by h k (Second b) n (Second u) = k b n u
+held_by h k _ n _ = ⊥

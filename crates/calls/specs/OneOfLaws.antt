@@ -15,29 +15,18 @@ level_order = record { swap = λ a b. refl; less = λ a b c h i. h; equal = λ a
 module _ {T U : Type 0} (r : T → T → Ordering) (s : U → U → Ordering) (o : Ordered r) (p : Ordered s) where
   swap : (a b : OneOf T U) → sorted r s b a ≡ ordering_reverse (sorted r s a b)
   swap (First a) (First b) = o.swap a b
-  swap (First a) (Second b) = refl
-  swap (Second a) (First b) = refl
   swap (Second a) (Second b) = p.swap a b
+  swap a b = grind arith
 
   less : (a b c : OneOf T U) → sorted r s a b ≡ Less → sorted r s b c ≡ Less → sorted r s a c ≡ Less
   less (First a) (First b) (First c) h i = o.less a b c h i
-  less (First a) (First b) (Second c) h i = refl
-  less (First a) (Second b) (First c) h i = absurd (grind arith)
-  less (First a) (Second b) (Second c) h i = refl
-  less (Second a) (First b) (First c) h i = absurd (grind arith)
-  less (Second a) (First b) (Second c) h i = absurd (grind arith)
-  less (Second a) (Second b) (First c) h i = absurd (grind arith)
   less (Second a) (Second b) (Second c) h i = p.less a b c h i
+  less a b c h i = grind arith
 
   equal : (a b c : OneOf T U) → sorted r s a b ≡ Equal → sorted r s b c ≡ Equal → sorted r s a c ≡ Equal
   equal (First a) (First b) (First c) h i = o.equal a b c h i
-  equal (First a) (First b) (Second c) h i = absurd (grind arith)
-  equal (First a) (Second b) (First c) h i = absurd (grind arith)
-  equal (First a) (Second b) (Second c) h i = absurd (grind arith)
-  equal (Second a) (First b) (First c) h i = absurd (grind arith)
-  equal (Second a) (First b) (Second c) h i = absurd (grind arith)
-  equal (Second a) (Second b) (First c) h i = absurd (grind arith)
   equal (Second a) (Second b) (Second c) h i = p.equal a b c h i
+  equal a b c h i = grind arith
 
   ordered_sorted : Ordered (sorted r s)
   ordered_sorted = record { swap = swap; less = less; equal = equal }
@@ -49,18 +38,5 @@ module _ {A B M N T U : Type 0} (r : A → Rules M T) (s : B → Rules N U) wher
 
   pub adding_one : ((a : A) → Adding (r a)) → ((b : B) → Adding (s b)) → (x : OneOf A B) → Adding (one_of r s x)
   adding_one o p (First a) (First t) (First u) (First m) = o a t u m
-  adding_one o p (First a) (First t) (First u) (Second m) = refl
-  adding_one o p (First a) (First t) (Second u) (First m) = refl
-  adding_one o p (First a) (First t) (Second u) (Second m) = refl
-  adding_one o p (First a) (Second t) (First u) (First m) = refl
-  adding_one o p (First a) (Second t) (First u) (Second m) = refl
-  adding_one o p (First a) (Second t) (Second u) (First m) = refl
-  adding_one o p (First a) (Second t) (Second u) (Second m) = refl
-  adding_one o p (Second b) (First t) (First u) (First m) = refl
-  adding_one o p (Second b) (First t) (First u) (Second m) = refl
-  adding_one o p (Second b) (First t) (Second u) (First m) = refl
-  adding_one o p (Second b) (First t) (Second u) (Second m) = refl
-  adding_one o p (Second b) (Second t) (First u) (First m) = refl
-  adding_one o p (Second b) (Second t) (First u) (Second m) = refl
-  adding_one o p (Second b) (Second t) (Second u) (First m) = refl
   adding_one o p (Second b) (Second t) (Second u) (Second m) = p b t u m
+  adding_one o p x t u m = grind arith

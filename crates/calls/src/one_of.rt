@@ -26,6 +26,8 @@ impl<A: Criterion, B: Criterion> Criterion for OneOf<A, B> {
 
     ghost adding = { λ s. adding_one A.Criterion.rules B.Criterion.rules A.Criterion.adding B.Criterion.adding s };
 
+    // The choice is data, read from text, and its marks and totals are of two types: a `match` tells them apart, where
+    // a trait object could not.
     fn mark(&self, sheet: u16, counts: &[u16; 8]) -> OneOf<A::Mark, B::Mark> {
         match self {
             OneOf::First(by) => OneOf::First(by.mark(sheet, counts)),

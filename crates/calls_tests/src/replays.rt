@@ -1,5 +1,5 @@
 // What new refuses, and a trial between two counts.
-use calls::answer::Answer;
+use calls::answer::{Answer, Reply};
 use calls::call::{Call, Recording, Step};
 use calls::replay;
 use calls::unplayed::Unplayed;
@@ -7,7 +7,7 @@ use criteria::tally::{Classes, Tally};
 use std::alloc::Global;
 use std::test::Fail;
 
-// The number by which new is refused, and 0 where it is accepted.
+// The number by which new is refused, and 0 where it is accepted: the table below has the rules' numbers.
 fn number(heap: Global, cells: u32, sheet: u32, parameters: u32) -> Result<u8, Fail> {
     let steps: [Step<Tally>; 0] = [];
     match replay(heap, 3, cells, sheet, parameters, &steps) {
@@ -43,10 +43,10 @@ fn limits(share: u32) -> Call<Tally> {
     }
 }
 
-fn sheets(answer: &Answer<Classes>) -> u32 {
-    match answer {
-        Answer::Counted { sheets, looks: _ } => *sheets,
-        _ => 99,
+fn sheets(reply: &Reply<Classes>) -> Option<u32> {
+    match reply {
+        Ok(Answer::Counted { sheets, looks: _ }) => Some(*sheets),
+        _ => None,
     }
 }
 
@@ -74,12 +74,12 @@ fn a_trial_is_gone_at_its_end(rt: HostRuntime) -> Result<(), Fail> {
     trial.push(Call::Count)?;
     steps.push(Step::Trial(trial))?;
     steps.push(Step::Call(Call::Count))?;
-    let Ok(answers) = replay(heap, 2, 2, 1, 1, &steps) else {
+    let Ok(replies) = replay(heap, 2, 2, 1, 1, &steps) else {
         return Err(Fail::new("replayed"));
     };
-    assert!(rt; answers.len() == 9);
-    assert_eq!(rt; sheets(&answers[3]), 2);
-    assert_eq!(rt; sheets(&answers[6]), 1);
-    assert_eq!(rt; sheets(&answers[8]), 2);
+    assert!(rt; replies.len() == 9);
+    assert_eq!(rt; sheets(&replies[3]), Some(2));
+    assert_eq!(rt; sheets(&replies[6]), Some(1));
+    assert_eq!(rt; sheets(&replies[8]), Some(2));
     Ok(())
 }

@@ -6,4 +6,4 @@ use Rattle.calls.proofs.replaying.replay.Given as goal
 
 abbrev pub invariant-loop-step : goal.invariant-loop-step
 invariant-loop-step g l =
-    Ran g.C.Criterion.rules (course_of l.initial.roll l.initial.recipe) (course_of l.roll l.recipe) (events (take l.step-index l.steps)) [] (vec_items l.answers)
+    Ran g.C.Criterion.rules (course_of l.initial.job.roll l.initial.job.recipe) (course_of l.job.roll l.job.recipe) (events (take l.step-index l.steps)) [] (vec_items l.job.replies)
