@@ -10,24 +10,24 @@ use anyhow::anyhow;
 use calls::replay;
 use calls::unplayed::Unplayed;
 use script::{Script, Trouble};
-use showing::{show_answer, show_refusal};
+use showing::{show_refusal, show_reply};
 use std::io::Read;
 
 // The calls of a script that is well formed.
 fn play(rt: &HostRuntime, script: &Script) -> anyhow::Result<()> {
-    let answers = replay(
+    let replies = replay(
         rt.alloc(),
         script.places,
-        script.cells,
-        script.sheet,
-        script.parameters,
+        script.new.cells,
+        script.new.sheet,
+        script.new.parameters,
         &script.steps,
     );
-    match answers {
-        Ok(answers) => {
+    match replies {
+        Ok(replies) => {
             println!(rt; "accepted")?;
-            for answer in &answers {
-                show_answer(rt, answer)?;
+            for reply in &replies {
+                show_reply(rt, reply)?;
             }
             Ok(())
         }

@@ -1,17 +1,21 @@
 // A script of calls, line by line.
-use crate::named::{Named, criterion};
-use crate::words::{end, number, real, size};
+use crate::named::{FromName, Named};
+use crate::words::Words;
 use calls::call::{Call, Recording, Step};
 use std::alloc::{AllocError, AllocFailed, Global};
-use std::mem;
-use std::str::SplitWhitespace;
+
+// What the roll is set to, as the script has it.
+#[derive(Clone, Copy)]
+pub(crate) struct Sizes {
+    pub(crate) cells: u32,
+    pub(crate) sheet: u32,
+    pub(crate) parameters: u32,
+}
 
 #[derive(Drop)]
 pub(crate) struct Script {
     pub(crate) places: usize,
-    pub(crate) cells: u32,
-    pub(crate) sheet: u32,
-    pub(crate) parameters: u32,
+    pub(crate) new: Sizes,
     pub(crate) steps: Vec<Step<Named>>,
 }
 
@@ -42,11 +46,11 @@ enum Item {
     End,
 }
 
-fn reading(words: &mut SplitWhitespace) -> Option<Item> {
-    let parameter = number(words)?;
-    let position = number(words)?;
-    let value = real(words)?;
-    end(words)?;
+fn reading(words: &mut Words) -> Option<Item> {
+    let parameter = words.number()?;
+    let position = words.number()?;
+    let value = words.real()?;
+    words.end()?;
     Some(Item::Make(Call::Record(Recording::Reading {
         parameter,
         position,
@@ -54,25 +58,25 @@ fn reading(words: &mut SplitWhitespace) -> Option<Item> {
     })))
 }
 
-fn withdraw(words: &mut SplitWhitespace) -> Option<Item> {
-    let parameter = number(words)?;
-    end(words)?;
+fn withdraw(words: &mut Words) -> Option<Item> {
+    let parameter = words.number()?;
+    words.end()?;
     Some(Item::Make(Call::Record(Recording::Withdraw { parameter })))
 }
 
-fn bar(words: &mut SplitWhitespace) -> Option<Item> {
-    let from = number(words)?;
-    let to = number(words)?;
-    end(words)?;
+fn bar(words: &mut Words) -> Option<Item> {
+    let from = words.number()?;
+    let to = words.number()?;
+    words.end()?;
     Some(Item::Make(Call::Record(Recording::Bar { from, to })))
 }
 
-fn limits(words: &mut SplitWhitespace) -> Option<Item> {
-    let parameter = number(words)?;
-    let low = real(words)?;
-    let high = real(words)?;
-    let share = number(words)?;
-    end(words)?;
+fn limits(words: &mut Words) -> Option<Item> {
+    let parameter = words.number()?;
+    let low = words.real()?;
+    let high = words.real()?;
+    let share = words.number()?;
+    words.end()?;
     Some(Item::Make(Call::Limits {
         parameter,
         low,
@@ -81,11 +85,11 @@ fn limits(words: &mut SplitWhitespace) -> Option<Item> {
     }))
 }
 
-fn plan(words: &mut SplitWhitespace) -> Option<Item> {
-    let work = size(words)?;
-    let ends = size(words)?;
-    let criterion = criterion(words)?;
-    end(words)?;
+fn plan(words: &mut Words) -> Option<Item> {
+    let work = words.size()?;
+    let ends = words.size()?;
+    let criterion = Named::from_name(words)?;
+    words.end()?;
     Some(Item::Make(Call::Plan {
         criterion,
         work,
@@ -93,14 +97,14 @@ fn plan(words: &mut SplitWhitespace) -> Option<Item> {
     }))
 }
 
-fn alone(words: &mut SplitWhitespace, item: Item) -> Option<Item> {
-    end(words)?;
+fn alone(words: &mut Words, item: Item) -> Option<Item> {
+    words.end()?;
     Some(item)
 }
 
 // The item of a line, or what is wrong with it.
-fn item_of(word: &str, words: &mut SplitWhitespace) -> Result<Item, &'static str> {
-    match word {
+fn item_of(words: &mut Words) -> Result<Item, &'static str> {
+    match words.word().unwrap_or("") {
         "reading" => reading(words).ok_or("expected reading PARAMETER POSITION VALUE"),
         "withdraw" => withdraw(words).ok_or("expected withdraw PARAMETER"),
         "bar" => bar(words).ok_or("expected bar FROM TO"),
@@ -117,116 +121,94 @@ const PLACES: &str = "expected places N";
 
 const NEW: &str = "expected new CELLS SHEET PARAMETERS";
 
-fn places(word: &str, words: &mut SplitWhitespace) -> Option<usize> {
-    if word != "places" {
+fn places(words: &mut Words) -> Option<usize> {
+    if words.word()? != "places" {
         return None;
     }
-    let places = size(words)?;
-    end(words)?;
+    let places = words.size()?;
+    words.end()?;
     Some(places)
 }
 
-fn new(word: &str, words: &mut SplitWhitespace) -> Option<(u32, u32, u32)> {
-    if word != "new" {
+fn new(words: &mut Words) -> Option<Sizes> {
+    if words.word()? != "new" {
         return None;
     }
-    let cells = number(words)?;
-    let sheet = number(words)?;
-    let parameters = number(words)?;
-    end(words)?;
-    Some((cells, sheet, parameters))
+    let cells = words.number()?;
+    let sheet = words.number()?;
+    let parameters = words.number()?;
+    words.end()?;
+    Some(Sizes {
+        cells,
+        sheet,
+        parameters,
+    })
 }
 
-// What the lines so far have said; `trial` has the calls of the trial that stands.
+// What the lines up to `line` have said; the calls of the trial that stands, if one does.
 #[derive(Drop)]
 struct Lines {
     heap: Global,
+    line: usize,
     places: Option<usize>,
-    new: Option<(u32, u32, u32)>,
+    new: Option<Sizes>,
     steps: Vec<Step<Named>>,
-    in_trial: bool,
-    trial: Vec<Call<Named>>,
+    trial: Option<Vec<Call<Named>>>,
 }
 
 impl Lines {
-    // One line more; what is wrong with it, if anything is.
-    fn add(
-        &mut self,
-        word: &str,
-        words: &mut SplitWhitespace,
-    ) -> Result<Option<&'static str>, AllocError> {
-        if self.places.is_none() {
-            self.places = places(word, words);
-            return Ok(if self.places.is_none() {
-                Some(PLACES)
-            } else {
-                None
-            });
-        }
-        if self.new.is_none() {
-            self.new = new(word, words);
-            return Ok(if self.new.is_none() { Some(NEW) } else { None });
-        }
-        match item_of(word, words) {
-            Ok(item) => self.add_item(item),
-            Err(message) => Ok(Some(message)),
+    fn off(&self, message: &'static str) -> Trouble {
+        Trouble::Off {
+            line: self.line,
+            message,
         }
     }
 
-    fn add_item(&mut self, item: Item) -> Result<Option<&'static str>, AllocError> {
+    fn add(&mut self, words: &mut Words) -> Result<(), Trouble> {
+        if self.places.is_none() {
+            self.places = Some(places(words).ok_or(self.off(PLACES))?);
+        } else if self.new.is_none() {
+            self.new = Some(new(words).ok_or(self.off(NEW))?);
+        } else {
+            let item = item_of(words).map_err(|message| self.off(message))?;
+            self.add_item(item)?;
+        }
+        Ok(())
+    }
+
+    fn add_item(&mut self, item: Item) -> Result<(), Trouble> {
         match item {
-            Item::Make(call) => {
-                if self.in_trial {
-                    self.trial.push(call)?;
-                } else {
-                    self.steps.push(Step::Call(call))?;
-                }
-                Ok(None)
-            }
+            Item::Make(call) => match &mut self.trial {
+                Some(calls) => calls.push(call)?,
+                None => self.steps.push(Step::Call(call))?,
+            },
             Item::Trial => {
-                if self.in_trial {
-                    return Ok(Some("a trial stands"));
+                if self.trial.is_some() {
+                    return Err(self.off("a trial stands"));
                 }
-                self.in_trial = true;
-                Ok(None)
+                self.trial = Some(Vec::new(self.heap));
             }
             Item::End => {
-                if !self.in_trial {
-                    return Ok(Some("no trial stands"));
-                }
-                self.in_trial = false;
-                let calls = mem::replace(&mut self.trial, Vec::new(self.heap));
+                let Some(calls) = self.trial.take() else {
+                    return Err(self.off("no trial stands"));
+                };
                 self.steps.push(Step::Trial(calls))?;
-                Ok(None)
             }
         }
+        Ok(())
     }
 
     // The script, where its lines are all of it.
-    fn script(self) -> Result<Script, &'static str> {
-        let Lines {
-            heap: _,
-            places,
-            new,
-            steps,
-            in_trial,
-            trial: _,
-        } = self;
-        let Some(places) = places else {
-            return Err(PLACES);
-        };
-        let Some((cells, sheet, parameters)) = new else {
-            return Err(NEW);
-        };
-        if in_trial {
-            return Err("expected end");
+    fn script(self) -> Result<Script, Trouble> {
+        if self.trial.is_some() {
+            return Err(self.off("expected end"));
         }
+        let missing_places = self.off(PLACES);
+        let missing_new = self.off(NEW);
         Ok(Script {
-            places,
-            cells,
-            sheet,
-            parameters,
-            steps,
+            places: self.places.ok_or(missing_places)?,
+            new: self.new.ok_or(missing_new)?,
+            steps: self.steps,
         })
     }
 }
@@ -235,31 +217,20 @@ impl Lines {
 pub(crate) fn read(heap: Global, text: &str) -> Result<Script, Trouble> {
     let mut lines = Lines {
         heap,
+        line: 0,
         places: None,
         new: None,
         steps: Vec::new(heap),
-        in_trial: false,
-        trial: Vec::new(heap),
+        trial: None,
     };
-    let mut line: usize = 0;
-    for row in text.lines() {
-        line = line.saturating_add(1);
-        let mut words = row.split_whitespace();
-        let Some(word) = words.next() else {
-            continue;
-        };
-        if word.starts_with('#') {
-            continue;
-        }
-        if let Some(message) = lines.add(word, &mut words)? {
-            return Err(Trouble::Off { line, message });
+    for (line, row) in (1..).zip(text.lines()) {
+        lines.line = line;
+        let mut words = Words::of(row);
+        match words.peek() {
+            Some(word) if !word.starts_with('#') => lines.add(&mut words)?,
+            _ => {}
         }
     }
-    match lines.script() {
-        Ok(script) => Ok(script),
-        Err(message) => Err(Trouble::Off {
-            line: line.saturating_add(1),
-            message,
-        }),
-    }
+    lines.line = lines.line.saturating_add(1);
+    lines.script()
 }

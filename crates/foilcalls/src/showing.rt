@@ -1,9 +1,11 @@
 // Answers as lines.
-use crate::named::{JoinedTotal, NamedTotal, SimpleTotal};
-use calls::answer::Answer;
+use crate::named::{NamedTotal, SimpleTotal};
+use calls::answer::{Answer, Reply};
 use calls::one_of::OneOf;
+use criteria::tally::Classes;
 use model::refusal::Refusal;
 
+// In a script's answers a value that is told stands alone, without the word that it has in print.
 pub(crate) fn show_refusal(rt: &HostRuntime, refusal: Refusal) -> anyhow::Result<()> {
     let number = refusal.number();
     match refusal {
@@ -14,48 +16,41 @@ pub(crate) fn show_refusal(rt: &HostRuntime, refusal: Refusal) -> anyhow::Result
     Ok(())
 }
 
-fn show_simple(rt: &HostRuntime, total: SimpleTotal) -> anyhow::Result<()> {
-    match total {
-        OneOf::First(sum) => print!(rt; " {sum}")?,
-        OneOf::Second(OneOf::First(sums)) => {
-            for sum in sums {
-                print!(rt; " {sum}")?;
+// A total as words of a line, each behind a space. No `Display`: numbers, arrays and pairs are not ours to give one.
+trait Shown: Drop {
+    fn show(self, rt: &HostRuntime) -> anyhow::Result<()>;
+}
+
+impl Shown for SimpleTotal {
+    fn show(self, rt: &HostRuntime) -> anyhow::Result<()> {
+        match self {
+            OneOf::First(sum) => print!(rt; " {sum}")?,
+            OneOf::Second(OneOf::First(sums)) => {
+                for sum in sums {
+                    print!(rt; " {sum}")?;
+                }
             }
+            OneOf::Second(OneOf::Second(Classes { a, b, c, d })) => print!(rt; " {a} {b} {c} {d}")?,
         }
-        OneOf::Second(OneOf::Second(classes)) => {
-            let a = classes.a;
-            let b = classes.b;
-            let c = classes.c;
-            let d = classes.d;
-            print!(rt; " {a} {b} {c} {d}")?;
-        }
-    }
-    Ok(())
-}
-
-fn show_joined(rt: &HostRuntime, total: JoinedTotal) -> anyhow::Result<()> {
-    match total {
-        OneOf::First(simple) => show_simple(rt, simple),
-        OneOf::Second((first, second)) => {
-            show_simple(rt, first)?;
-            show_simple(rt, second)
-        }
+        Ok(())
     }
 }
 
-fn show_total(rt: &HostRuntime, total: NamedTotal) -> anyhow::Result<()> {
-    match total {
-        OneOf::First(joined) => show_joined(rt, joined),
-        OneOf::Second((first, second)) => {
-            show_joined(rt, first)?;
-            show_joined(rt, second)
+impl<T: Shown> Shown for OneOf<T, (T, T)> {
+    fn show(self, rt: &HostRuntime) -> anyhow::Result<()> {
+        match self {
+            OneOf::First(total) => total.show(rt),
+            OneOf::Second((first, second)) => {
+                first.show(rt)?;
+                second.show(rt)
+            }
         }
     }
 }
 
 fn show_plan(rt: &HostRuntime, sheets: u32, total: NamedTotal, ends: &[u32]) -> anyhow::Result<()> {
     print!(rt; "sheets {sheets} total")?;
-    show_total(rt, total)?;
+    total.show(rt)?;
     print!(rt; " ends")?;
     for end in ends {
         print!(rt; " {end}")?;
@@ -64,17 +59,12 @@ fn show_plan(rt: &HostRuntime, sheets: u32, total: NamedTotal, ends: &[u32]) -> 
     Ok(())
 }
 
-pub(crate) fn show_answer(rt: &HostRuntime, answer: &Answer<NamedTotal>) -> anyhow::Result<()> {
-    match answer {
-        Answer::Accepted => println!(rt; "accepted")?,
-        Answer::Refused(refusal) => show_refusal(rt, *refusal)?,
-        Answer::Counted { sheets, looks } => println!(rt; "sheets {sheets} looks {looks}")?,
-        Answer::Planned {
-            sheets,
-            total,
-            ticket: _,
-            ends,
-        } => show_plan(rt, *sheets, *total, ends)?,
+pub(crate) fn show_reply(rt: &HostRuntime, reply: &Reply<NamedTotal>) -> anyhow::Result<()> {
+    match reply {
+        Ok(Answer::Accepted) => println!(rt; "accepted")?,
+        Ok(Answer::Counted { sheets, looks }) => println!(rt; "sheets {sheets} looks {looks}")?,
+        Ok(Answer::Planned { plan, ends }) => show_plan(rt, plan.sheets, plan.total, ends)?,
+        Err(refusal) => show_refusal(rt, *refusal)?,
     }
     Ok(())
 }

@@ -1,64 +1,69 @@
 // The words of a line, read as numbers and reals.
+use std::iter::Peekable;
 use std::num::f32_from_bits_with_nan;
 use std::str::SplitWhitespace;
 
 // Sizes of tables and places above this are not taken.
 const MOST_PLACES: u32 = 100000;
 
-fn digit(byte: u8) -> Option<u32> {
-    match byte {
-        b'0'..=b'9' => Some((byte - b'0') as u32),
-        _ => None,
+// The words that are still to be read.
+#[derive(Drop)]
+pub(crate) struct Words<'a> {
+    left: Peekable<SplitWhitespace<'a>>,
+}
+
+impl<'a> Words<'a> {
+    pub(crate) fn of(line: &'a str) -> Words<'a> {
+        Words {
+            left: line.split_whitespace().peekable(),
+        }
     }
-}
 
-// A digit of a bit pattern.
-fn nibble(byte: u8) -> Option<u32> {
-    match byte {
-        b'A'..=b'F' => Some((byte - b'A') as u32 + 10),
-        _ => digit(byte),
+    // The next word, which stays to be read.
+    pub(crate) fn peek(&mut self) -> Option<&'a str> {
+        self.left.peek().copied()
     }
-}
 
-fn whole(word: &str) -> Option<u32> {
-    let mut value: u32 = 0;
-    for byte in word.bytes() {
-        value = value.checked_mul(10)?.checked_add(digit(byte)?)?;
+    pub(crate) fn word(&mut self) -> Option<&'a str> {
+        self.left.next()
     }
-    Some(value)
-}
 
-fn pattern(word: &str) -> Option<u32> {
-    if word.len() != 8 {
-        return None;
+    // Digits alone, without a sign.
+    pub(crate) fn number(&mut self) -> Option<u32> {
+        let word = self.word()?;
+        if !word.bytes().all(|byte| byte.is_ascii_digit()) {
+            return None;
+        }
+        u32::from_str_radix(word, 10).ok()
     }
-    let mut value: u32 = 0;
-    for byte in word.bytes() {
-        value = value.checked_mul(16)?.checked_add(nibble(byte)?)?;
+
+    pub(crate) fn size(&mut self) -> Option<usize> {
+        let size = self.number()?;
+        if size > MOST_PLACES {
+            return None;
+        }
+        Some(size as usize)
     }
-    Some(value)
-}
 
-pub(crate) fn number(words: &mut SplitWhitespace) -> Option<u32> {
-    whole(words.next()?)
-}
-
-pub(crate) fn size(words: &mut SplitWhitespace) -> Option<usize> {
-    let size = number(words)?;
-    if size > MOST_PLACES {
-        return None;
+    // Eight hexadecimal digits, capitals only: the bit pattern.
+    pub(crate) fn real(&mut self) -> Option<f32> {
+        let word = self.word()?;
+        if word.len() != 8
+            || !word
+                .bytes()
+                .all(|byte| matches!(byte, b'0'..=b'9' | b'A'..=b'F'))
+        {
+            return None;
+        }
+        let bits = u32::from_str_radix(word, 16).ok()?;
+        Some(f32_from_bits_with_nan(bits))
     }
-    Some(size as usize)
-}
 
-pub(crate) fn real(words: &mut SplitWhitespace) -> Option<f32> {
-    Some(f32_from_bits_with_nan(pattern(words.next()?)?))
-}
-
-// Nothing where the line has ended.
-pub(crate) fn end(words: &mut SplitWhitespace) -> Option<()> {
-    match words.next() {
-        Some(_) => None,
-        None => Some(()),
+    // Nothing where the line has ended.
+    pub(crate) fn end(&mut self) -> Option<()> {
+        match self.word() {
+            Some(_) => None,
+            None => Some(()),
+        }
     }
 }

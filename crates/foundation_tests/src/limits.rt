@@ -41,7 +41,7 @@ fn rows_are_checked(rt: HostRuntime) {
         (f32::NAN, f32::NAN, 0, false),
     ];
     for (low, high, share, some) in cases {
-        assert_eq!(rt; Limits::of(Row { low, high, share }).is_some(), some);
+        assert_eq!(rt; Limits::try_from(Row { low, high, share }).is_ok(), some);
     }
 }
 

@@ -16,19 +16,14 @@ fn record(roll: &mut Roll, recipe: &mut Recipe) -> Result<(), Refusal> {
 }
 
 fn outlier(roll: &Roll, recipe: &Recipe, cell: u32) -> bool {
-    match verdict(roll, recipe, 1, cell) {
-        Some(Verdict::Outlier) => true,
-        Some(Verdict::Within) => false,
-        None => false,
-    }
+    verdict(roll, recipe, 1, cell) == Some(Verdict::Outlier)
 }
 
-// Its outlier count in parameter 1 if the sheet is good, else 9.
-fn good_count(roll: &Roll, recipe: &Recipe, end: u32) -> u16 {
-    match sheet(roll, recipe, end) {
-        Some(found) => { if found.good { found.counts[0] } else { 9 } }
-        None => 9,
-    }
+// The outlier count in parameter 1 of a good sheet.
+fn good_count(roll: &Roll, recipe: &Recipe, end: u32) -> Option<u16> {
+    sheet(roll, recipe, end)
+        .filter(|found| found.good)
+        .map(|found| found.counts[0])
 }
 
 // The cells 3 to 6 are outliers; cell 6 is as near to the reading at 4 as to that at 7, and the earlier serves.
@@ -39,7 +34,7 @@ fn cells_are_judged(rt: HostRuntime) -> Result<(), Fail> {
     let mut recipe = Recipe::fresh();
     record(&mut roll, &mut recipe)?;
     for cell in 1..11 {
-        assert_eq!(rt; outlier(&roll, &recipe, cell), cell >= 3 && cell <= 6);
+        assert_eq!(rt; outlier(&roll, &recipe, cell), (3..=6).contains(&cell));
     }
     let Some(serves) = roll.serving(1, 6) else {
         return Err(Fail::new("a reading serves cell 6"));
@@ -56,9 +51,9 @@ fn sheets_are_judged(rt: HostRuntime) -> Result<(), Fail> {
     record(&mut roll, &mut recipe)?;
     for end in 0..12 {
         let expected = match end {
-            3 | 8 => 1,
-            9 | 10 => 0,
-            _ => 9,
+            3 | 8 => Some(1),
+            9 | 10 => Some(0),
+            _ => None,
         };
         assert_eq!(rt; good_count(&roll, &recipe, end), expected);
     }
@@ -75,7 +70,7 @@ fn bars_and_withdrawals_count(rt: HostRuntime) -> Result<(), Fail> {
     let mut recipe = Recipe::fresh();
     record(&mut roll, &mut recipe)?;
     assert_eq!(rt; number(roll.bar(9, 9)), 0);
-    for (end, outliers) in [(8, 1), (9, 9), (10, 9)] {
+    for (end, outliers) in [(8, Some(1)), (9, None), (10, None)] {
         assert_eq!(rt; good_count(&roll, &recipe, end), outliers);
     }
     assert_eq!(rt; count(&roll, &recipe)?, (2, 3));
@@ -108,7 +103,7 @@ fn one_outlier(sheet_length: u32, share: u32) -> Result<bool, Refusal> {
     recipe.limits(1, 1.0, 2.0, share)?;
     roll.reading(1, 0, 3.0)?;
     roll.reading(1, 2, 1.5)?;
-    Ok(good_count(&roll, &recipe, sheet_length) == 1)
+    Ok(good_count(&roll, &recipe, sheet_length) == Some(1))
 }
 
 #[test]
