@@ -1,4 +1,4 @@
--- Jobs under way.
+-- Jobs under way; cited by inner functions alone.
 use Rattle.std.specs.Prelude.{List}
 use Rattle.criteria.specs.Law.{Rules}
 use Rattle.calls.specs.declared.replaying.Job.{Job}

@@ -19,6 +19,7 @@ use roll::Roll;
 use sheets::count;
 use std::alloc::{AllocError, Global};
 
+// By its case, as `make`.
 fn record(roll: &mut Roll, recording: Recording) -> Result<(), Refusal>
     ensures answer { decision result ≡ decide (recording_checks (roll_log roll.old) recording) }
     ensures after { roll_log roll.new ≡ recorded (roll_log roll.old) recording }

@@ -25,6 +25,7 @@ struct Job<'a, C: Criterion> {
 impl<C: Criterion> Job<'_, C> {
     ghost use Rattle.calls.specs.Jobs.{Led};
 
+    // By its case, as `make`.
     fn step(&mut self, step: &Step<C>) -> Result<(), AllocError>
         ensures { OnOk result (Led C.rules self.old self.new (events_of step.now)) }
     {

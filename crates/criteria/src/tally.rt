@@ -17,7 +17,7 @@ pub enum Class {
     D,
 }
 
-// How many sheets are of each class.
+// How many sheets are of each class, in the order in which they are printed: a derived order would compare A first.
 #[derive(Clone, Copy, PartialEq, Eq, Default, Debug)]
 pub struct Classes {
     pub a: u32,

@@ -25,6 +25,7 @@ pub(crate) trait FromName: Sized + Drop {
     fn from_name(words: &mut Words) -> Option<Self>;
 }
 
+// A name is read into data, as a call is.
 impl FromName for Simple {
     fn from_name(words: &mut Words) -> Option<Simple> {
         match words.word()? {

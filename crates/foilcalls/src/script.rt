@@ -102,7 +102,7 @@ fn alone(words: &mut Words, item: Item) -> Option<Item> {
     Some(item)
 }
 
-// The item of a line, or what is wrong with it.
+// The item of a line, or what is wrong with it. Words are read into data, and what they mean is done when all are read.
 fn item_of(words: &mut Words) -> Result<Item, &'static str> {
     match words.word().unwrap_or("") {
         "reading" => reading(words).ok_or("expected reading PARAMETER POSITION VALUE"),

@@ -1,4 +1,5 @@
-// The worked examples of the rules, computed.
+// The worked examples of the rules, computed. Crates above have functions of this kind for theirs: a list of examples is
+// no value that a parameter could be.
 ghost use Rattle.std.specs.Prelude.{◌≡◌, true};
 ghost use Rattle.model.specs.Examples.{examples, holds};
 

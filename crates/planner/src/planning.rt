@@ -98,7 +98,7 @@ pub fn plan<C: Criterion>(
     let best = work[size.cells as usize];
     room(best.sheets, ends.len())?;
     let mut at = size.cells as usize;
-    // By index: of the places that `iter_mut().rev()` gives, nothing is known once they are written.
+    // By index: of the places that a loop over `iter_mut().rev()` writes, nothing is known behind it.
     for left in (0..best.sheets as usize).rev() {
         let last = work[at].last;
         put(ends, left, last);

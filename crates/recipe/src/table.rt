@@ -16,7 +16,7 @@ const UNSET: Row = Row {
     share: 0,
 };
 
-// Rows are plain: which of them give limits is asked of each.
+// Rows are plain: which of them give limits is asked of each. There are eight, as the rules have parameters.
 #[derive(Drop)]
 pub struct Recipe {
     pub(crate) rows: [Row; 8],

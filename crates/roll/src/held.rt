@@ -13,7 +13,8 @@ pub struct Roll<'a> {
     pub(crate) places: Places<'a>,
     pub(crate) size: Size,
     pub(crate) bars: Bars,
-    // for each of the eight parameters, in the order of their numbers, the first position beyond its last one
+    // for each of the eight parameters that the rules allow, in the order of their numbers, the first position beyond its
+    // last one
     pub(crate) next: [u16; 8],
     // each reading is of a parameter and at a position of the roll, and in each parameter the positions rise
     ghost placed: { Placed size.cells size.parameters (recorded places) },

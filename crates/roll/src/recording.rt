@@ -1,4 +1,5 @@
-// The recording calls.
+// The recording calls. Each tests what the rules list for it, in their order, and says for itself that a refusal leaves the
+// roll as it was.
 ghost use Rattle.std.specs.Prelude.{◌≡◌, ◌+◌, ◌≤◌, length, cond, Ok, Err, IfOk, IsTrue, OnErr};
 ghost use Rattle.model.specs.Recording.{after_bar, after_new, after_reading, after_withdraw, bar_checks, idle, new_checks, reading_checks, withdraw_checks};
 ghost use Rattle.model.specs.declared.refusal.Refusal.TheVariants.{NoSuchParameter};

@@ -1,4 +1,4 @@
--- What a window sees; cited by inner functions alone.
+-- What a window sees.
 use Rattle.model.specs.Log.{Log}
 use Rattle.sheets.specs.declared.window.Window.{Window}
 use Rattle.sheets.specs.Logs.{log_of}

@@ -1,4 +1,4 @@
-// A sheet, as the rules judge it.
+// A sheet, as the rules judge it: the counts tell of it whether it is good or not.
 #[derive(Clone, Copy, PartialEq, Eq, Debug)]
 pub struct Sheet {
     // the outlier cells in each of the eight parameters

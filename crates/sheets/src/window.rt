@@ -19,7 +19,8 @@ use model::row::Row;
 use recipe::{Limits, Recipe};
 use roll::Roll;
 
-// The sheet that ends at `end`: one gauge for each parameter, those beyond the roll's parameters at rest.
+// The sheet that ends at `end`: one gauge for each of the eight parameters that the rules allow, those beyond the roll's at
+// rest.
 #[derive(Drop)]
 pub(crate) struct Window<'a, 'b> {
     pub(crate) roll: &'a Roll<'a>,
@@ -64,7 +65,7 @@ fn lane<'a>(readings: &'a [Reading], recipe: &Recipe, parameter: u8) -> Lane<'a>
 }
 
 // Moves the gauges of a window whose sheet ends at `end` on by n cells. Apart from `slide`, since in between they are over no
-// one sheet; by number, since of what a loop over `iter_mut` writes nothing is known afterwards.
+// one sheet; by number, since the invariant of a loop over some of them has no name for the others.
 fn slide_gauges(gauges: &mut [Gauge], roll: &Roll, recipe: &Recipe, end: u16, n: u16)
     requires over { Over (log_of roll.now recipe.now) end gauges.old }
     requires room { end + n ≤ 65534 }
@@ -103,7 +104,7 @@ impl<'a, 'b> Window<'a, 'b> {
         let size = roll.size();
         let readings = roll.readings();
         let mut gauges = [Gauge::AT_REST; 8];
-        // by number, as in `slide_gauges`
+        // by number: what makes an array of a closure would need clauses on it, since each entry is known to have limits
         for i in 0..size.parameters {
             gauges[i as usize] = Gauge::over(&lane(readings, recipe, i + 1), size.sheet);
         }
@@ -132,7 +133,8 @@ impl<'a, 'b> Window<'a, 'b> {
         self.gauges.map(|gauge| gauge.outliers)
     }
 
-    // The most by which a parameter of the sheet passes what its share allows. By number, for the recipe and the gauges.
+    // The most by which a parameter of the sheet passes what its share allows. A chain would need clauses on its closure,
+    // since each entry is known to have limits.
     fn excess(&self) -> u16
         ensures { result ≡ excess (seen self.now) self.now.end (seen self.now).roll.parameters }
     {
