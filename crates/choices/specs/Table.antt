@@ -24,8 +24,12 @@ pub record Tells {M T : Type 0} (log : Log) (r : Rules M T) (j : ℕ) (w : WorkP
 abbrev pub Beats : {T : Type 0} → (T → T → Ordering) → WorkPlace T → WorkPlace T → Type 0
 Beats rank w v = (v.sheets < w.sheets) ⊎ ((v.sheets ≡ w.sheets) × (rank w.total v.total ≡ Less))
 
+-- the place of no sheet, whose total is this
+abbrev pub empty : {T : Type 0} → T → WorkPlace T
+empty none = record { sheets = 0; total = none; last = 0 }
+
 abbrev pub blank : {M T : Type 0} → Rules M T → WorkPlace T
-blank r = record { sheets = 0; total = r.none; last = 0 }
+blank r = empty r.none
 
 -- each place from 0 to the last cell tells the best choice up to there, and later places are unchanged
 pub record Filled {M T : Type 0} (log : Log) (r : Rules M T) (before after : List (WorkPlace T)) : Type 0 where

@@ -1,5 +1,6 @@
 // The work table of planning.
 ghost use Rattle.std.specs.Prelude.{◌≡◌, replicate, IfOk};
+ghost use Rattle.choices.specs.Table.{empty};
 
 use std::alloc::{AllocError, Global};
 
@@ -15,7 +16,7 @@ pub struct WorkPlace<T> {
 impl<T> WorkPlace<T> {
     // The choice of no sheet, whose total is `none`.
     pub fn blank(none: T) -> Self
-        ensures { result ≡ record { sheets = 0; total = none; last = 0 } }
+        ensures { result ≡ empty none }
     {
         WorkPlace {
             sheets: 0,
@@ -27,7 +28,7 @@ impl<T> WorkPlace<T> {
 
 // A table of so many places, each with no sheet; a roll of P cells needs P + 1.
 pub fn table<T: Copy>(heap: Global, none: T, places: usize) -> Result<Vec<WorkPlace<T>>, AllocError>
-    ensures { IfOk result (λ v. v.items ≡ replicate places (record { sheets = 0; total = none; last = 0 })) }
+    ensures { IfOk result (λ v. v.items ≡ replicate places (empty none)) }
 {
     // `vec!` clones, and of a clone of any T nothing says that it is the same.
     let mut table = Vec::new(heap);

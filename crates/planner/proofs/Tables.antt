@@ -7,7 +7,7 @@ use Rattle.model.specs.Choices.{spacing}
 use Rattle.model.specs.Sheets.{good}
 use Rattle.criteria.specs.Law.{Rules}
 use Rattle.choices.specs.declared.work.WorkPlace.{WorkPlace}
-use Rattle.choices.specs.Table.{Beats, Filled, Tells, blank}
+use Rattle.choices.specs.Table.{Beats, Filled, Tells, blank, empty}
 use Rattle.choices.specs.Totals.{mark_of}
 use Rattle.choices.proofs.Backwards.{Lawful, Sound}
 use Rattle.choices.proofs.Forwards.{task}
@@ -63,7 +63,7 @@ read_last {M} {T} log r before after i x f h e =
     subst At h (subst Place (sym (get_or_read after i x (omega (arith, f.room)) e (blank r))) (f.places i (omega arith)))
 
 module _ {M T : Type 0} (log : Log) (r : Rules M T) (s : Sound (task log r)) (law : Lawful r) (H : ℕ → T → Type 0) where
-  pub held_none : (none : T) (w : WorkPlace T) → w ≡ record { sheets = 0; total = none; last = 0 } → none ≡ r.none → H 0 none → Held log r H 0 w
+  pub held_none : (none : T) (w : WorkPlace T) → w ≡ empty none → none ≡ r.none → H 0 none → Held log r H 0 w
   held_none none w e n h =
       let At : WorkPlace T → Type 0 = Held log r H 0 in
       subst At (sym e) (record { tells = tells_none log r s law _ refl n refl; held = h })

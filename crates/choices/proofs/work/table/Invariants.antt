@@ -1,5 +1,6 @@
 use Rattle.std.proofs.Common.{◌≡◌, replicate, vec_items}
+use Rattle.choices.specs.Table.{empty}
 use Rattle.choices.proofs.work.table.Given as goal
 
 abbrev pub invariant-loop : goal.invariant-loop
-invariant-loop g l = vec_items l.table ≡ replicate l.counter (record { sheets = 0; total = l.none; last = 0 })
+invariant-loop g l = vec_items l.table ≡ replicate l.counter (empty l.none)
