@@ -1,6 +1,7 @@
 // Each refusal of the recording calls at its edge: the last value that is accepted, the first that is refused.
 // Tables have the arguments of a call and the number of its refusal, 0 for an accepted call.
 use crate::{BLANK, number};
+use model::size::Size;
 use roll::Roll;
 
 #[test]
@@ -22,6 +23,20 @@ fn new_is_bounded(rt: HostRuntime) {
         assert_eq!(rt; number(roll.new(cells, sheet, parameters)), refusal);
     }
     assert_eq!(rt; roll.size().sheet, 4096);
+}
+
+// A size is three numbers, of which a caller may make any, as one to compare with.
+#[test]
+fn any_size_can_be_compared(rt: HostRuntime) {
+    let mut places = [BLANK; 1];
+    let roll = Roll::idle(&mut places);
+    let size = Size {
+        cells: 0,
+        sheet: 65535,
+        parameters: 9,
+    };
+    assert_eq!(rt; size.sheet, 65535);
+    assert_eq!(rt; roll.size() == size, false);
 }
 
 // An idle roll has one parameter and one cell.

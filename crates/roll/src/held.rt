@@ -16,6 +16,10 @@ pub struct Roll<'a> {
     // for each of the eight parameters that the rules allow, in the order of their numbers, the first position beyond its
     // last one
     pub(crate) next: [u16; 8],
+    // the cells of the roll and of a sheet, and the parameters, are within their bounds
+    ghost foil: { (1 ≤ size.cells) × (size.cells ≤ 32768) },
+    ghost piece: { (1 ≤ size.sheet) × (size.sheet ≤ 4096) },
+    ghost kinds: { (1 ≤ size.parameters) × (size.parameters ≤ 8) },
     // each reading is of a parameter and at a position of the roll, and in each parameter the positions rise
     ghost placed: { Placed size.cells size.parameters (recorded places) },
     ghost rising: { Rising (recorded places) },

@@ -13,6 +13,9 @@ impl<'a> Roll<'a> {
         ensures cells { result.cells ≡ (roll_log self.now).cells }
         ensures sheet { result.sheet ≡ (roll_log self.now).sheet }
         ensures parameters { result.parameters ≡ (roll_log self.now).parameters }
+        ensures foil { (1 ≤ result.cells) × (result.cells ≤ 32768) }
+        ensures piece { (1 ≤ result.sheet) × (result.sheet ≤ 4096) }
+        ensures kinds { (1 ≤ result.parameters) × (result.parameters ≤ 8) }
     {
         self.size
     }

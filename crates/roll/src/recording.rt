@@ -44,8 +44,7 @@ impl<'a> Roll<'a> {
         }
     }
 
-    // Sets the cells of the roll, the cells of a sheet and the number of parameters, and empties the roll. They are no `Size`
-    // yet, which has none that is out of bounds.
+    // Sets the cells of the roll, the cells of a sheet and the number of parameters, and empties the roll.
     pub fn new(&mut self, cells: u32, sheet: u32, parameters: u32) -> Result<(), Refusal>
         ensures answer { decision result ≡ decide (new_checks cells sheet parameters) }
         ensures after { roll_log self.new ≡ after_new (roll_log self.old) cells sheet parameters }

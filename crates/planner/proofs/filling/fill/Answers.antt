@@ -28,7 +28,7 @@ loop-j-init g c =
     let H = g.C.Criterion.held s in
     let law : Lawful r = record { order = g.met.C.Criterion.order s; adding = g.met.C.Criterion.adding s } in
     let start = c.blank.result in
-    let known = held_none log r (sound log r c.args.roll.now.size.piece.0) law H c.none.result start c.blank.ensures c.none.ensures.value c.none.ensures.held in
+    let known = held_none log r (sound log r c.args.roll.now.piece.0) law H c.none.result start c.blank.ensures c.none.ensures.value c.none.ensures.held in
     (c.in_ok-scan.ensures.sees, omega (arith, c.in_ok-scan.ensures.start), below_one log r H c.args.work.now start (omega arith) known)
 
 pub extended-taken-requires : goal.extended-taken-requires
@@ -39,11 +39,11 @@ extended-taken-requires g c =
     let H = g.C.Criterion.held s in
     let start = c.blank.result in
     let long : length c.loop-j.work ≡ length c.args.work.now = c.loop-j.invariant.2.many ∙ length-set c.args.work.now 0 start in
-    let some : 1 ≤ c.args.roll.now.size.sheet = c.args.roll.now.size.piece.0 in
+    let some : 1 ≤ c.args.roll.now.size.sheet = c.args.roll.now.piece.0 in
     let back : c.behind.result < c.loop-j.j = omega (arith, c.behind.ensures, c.size-size.ensures.sheet) in
     let before = read_held log r H (set c.args.work.now 0 start) c.loop-j.work c.loop-j.j c.behind.result c.index-work-behind.result
     c.loop-j.invariant.2 back (omega arith) c.index-work-behind.is in
-    omega (arith, tells_few log r (sound log r some) c.behind.result c.index-work-behind.result before.tells, c.args.roll.now.size.foil.1, c.size-size.ensures.cells, c.needed-places.ensures)
+    omega (arith, tells_few log r (sound log r some) c.behind.result c.index-work-behind.result before.tells, c.args.roll.now.foil.1, c.size-size.ensures.cells, c.needed-places.ensures)
 
 pub loop-j-preserved : goal.loop-j-preserved
 loop-j-preserved g c =
@@ -64,7 +64,7 @@ loop-j-preserved g c =
     let here : c.loop-j.scan.position + 1 ≡ j = c.loop-j.invariant.1 in
     let below : Below log r H was work j = c.loop-j.invariant.2 in
     let long : length work ≡ length c.args.work.now = below.many ∙ length-set c.args.work.now 0 start in
-    let some : 1 ≤ foil.sheet = foil.piece.0 in
+    let some : 1 ≤ foil.sheet = c.args.roll.now.piece.0 in
     let sure : Sound (task log r) = sound log r some in
     let nothing : lacking log ≡ None = none_refused log c.in_ok-scan.ensures.answer in
     let on : j ≤ foil.cells = omega (arith, c.size-size.ensures.cells, c.needed-places.ensures) in
@@ -79,7 +79,7 @@ loop-j-preserved g c =
           let fine : good log j ≡ true = sym told.1 ∙ w.if-sheet.true in
           let l : c.size-size.result.sheet ≡ log.roll.sheet = c.size-size.ensures.sheet in
           let mark : w.mark-mark.result ≡ mark_of log r j = w.mark-mark.ensures ∙ ap (λ n. r.mark n w.in-Some.sheet.counts) l ∙ ap (r.mark log.roll.sheet) told.0 in
-          let marked : Marked r w.mark-mark.result = (log.roll.sheet, counts log j, asked log j foil.piece.1, mark) in
+          let marked : Marked r w.mark-mark.result = (log.roll.sheet, counts log j, asked log j c.args.roll.now.piece.1, mark) in
           let sum = w.extended-taken.ensures.sum before.held marked ∙ ap (r.add u.total) mark in
           subst Place (sym w.work-is)
           (held_step log r sure law H j v u w.extended-taken.result w.better.result one fine last before w.extended-taken.ensures.sheets sum w.extended-taken.ensures.last

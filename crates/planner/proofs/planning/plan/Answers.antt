@@ -22,7 +22,7 @@ returns-in_err-fill g c =
     let r = g.C.Criterion.rules c.args.criterion.now in
     let s = c.args.criterion.now in
     let law : Lawful r = record { order = g.met.C.Criterion.order s; adding = g.met.C.Criterion.adding s } in
-    let best = best_some log r (sound log r c.args.roll.now.size.piece.0) law in
+    let best = best_some log r (sound log r c.args.roll.now.piece.0) law in
     let works = length c.args.work.now in
     let rooms = length c.args.ends.now in
     let e = c.in_err-fill.field-0.0 in
@@ -90,7 +90,7 @@ loop-left-preserved g c =
     subst Into (sym c.put.ensures)
     (subst From back
     (trace_more log r c.args.ends.now v c.loop-left.ends c.loop-left.at c.loop-left.left w
-    (sound log r c.args.roll.now.size.piece.0) law c.loop-left.invariant (omega arith) told_here))
+    (sound log r c.args.roll.now.piece.0) law c.loop-left.invariant (omega arith) told_here))
 
 pub returns : goal.returns
 returns g c =

@@ -18,8 +18,8 @@ loop-window-init c =
 pub slide-requires : goal.slide-requires
 slide-requires c =
     let w = c.loop-window.window in
-    let few = stride_few (seen w) w.end w.roll.now.size.piece.0 in
-    omega (arith, c.look-look.ensures.stride, w.roll.now.size.foil, w.roll.now.size.piece)
+    let few = stride_few (seen w) w.end w.roll.now.piece.0 in
+    omega (arith, c.look-look.ensures.stride, w.roll.now.foil, w.roll.now.piece)
 
 pub loop-window-preserved : goal.loop-window-preserved
 loop-window-preserved c =
@@ -28,7 +28,7 @@ loop-window-preserved c =
     let sees = c.loop-window.invariant.sees in
     let step : c.look-look.result.stride ≡ stride log w.end = c.look-look.ensures.stride ∙ ap (λ g. stride g w.end) sees in
     let found : c.look-look.result.good ≡ good log w.end = c.look-look.ensures.good ∙ ap (λ g. good g w.end) sees in
-    let more = walked_look log w.end c.loop-window.sheets c.loop-window.looks c.args.roll.now.size.piece.0 (omega (arith, c.size-cells.ensures.cells)) c.loop-window.invariant.walked in
+    let more = walked_look log w.end c.loop-window.sheets c.loop-window.looks c.args.roll.now.piece.0 (omega (arith, c.size-cells.ensures.cells)) c.loop-window.invariant.walked in
     let end : w.end + stride log w.end ≡ c.slide.new.self.end = omega (arith, c.slide.ensures.moved) in
     let taken : c.loop-window.sheets + bit (good log w.end) ≡ c.if-look.sheets = elim c.if-look.branch [
       | then-look v ↦ (let g : bit (good log w.end) ≡ 1 = ap bit (sym found ∙ v.if-look.true) in omega (arith, v.sheets-is))

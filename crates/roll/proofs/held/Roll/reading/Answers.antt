@@ -15,11 +15,14 @@ invariant_of-self c =
     let lane = c.in_ok-lane.lane in
     let found : (lane + 1 ≡ r.parameter) × (r.parameter ≤ s.size.parameters) = c.in_ok-lane.ensures.found in
     let last : beyond rs r.parameter ≤ r.position =
-    omega (arith, c.if-position-self-2.false, s.latest.1 lane (omega (arith, s.size.kinds.1)), ap (beyond rs) found.0) in
+    omega (arith, c.if-position-self-2.false, s.latest.1 lane (omega (arith, s.kinds.1)), ap (beyond rs) found.0) in
     record {
+      foil = s.foil;
+      piece = s.piece;
+      kinds = s.kinds;
       placed = rw c.push.ensures.after (grind (arith, elements));
       rising = rw c.push.ensures.after (rising_push rs r s.rising last);
-      latest = rw c.push.ensures.after (nexts_push s.next rs r lane (found.0, omega (arith, s.size.kinds.1)) s.latest);
+      latest = rw c.push.ensures.after (nexts_push s.next rs r lane (found.0, omega (arith, s.kinds.1)) s.latest);
       few = s.few;
       barring = s.barring;
     }

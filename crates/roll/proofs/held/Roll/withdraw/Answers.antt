@@ -26,9 +26,12 @@ invariant_of-self c =
     let found = c.in_ok-lane.ensures.found in
     let next : c.beyond-next.result ≡ beyond (take k rs) c.args.parameter = c.beyond-next.ensures ∙ ap (λ xs. beyond (take k xs) c.args.parameter) c.readings-readings.ensures in
     record {
+      foil = s.foil;
+      piece = s.piece;
+      kinds = s.kinds;
       placed = rw c.remove.ensures.after (each_removed blank (OnRoll s.size.cells s.size.parameters) rs k (last c).within s.placed);
       rising = rw c.remove.ensures.after (rising_removed rs k (last c).within s.rising);
-      latest = rw (c.remove.ensures.after, next) (nexts_removed s.next rs c.args.parameter c.in_ok-lane.lane k (found.0, omega (arith, found, s.size.kinds.1)) s.latest (last c));
+      latest = rw (c.remove.ensures.after, next) (nexts_removed s.next rs c.args.parameter c.in_ok-lane.lane k (found.0, omega (arith, found, s.kinds.1)) s.latest (last c));
       few = s.few;
       barring = s.barring;
     }
