@@ -73,6 +73,8 @@ impl Answers<'_> {
 }
 
 impl Shows for Answers<'_> {
+    type Error = anyhow::Error;
+
     fn recorded(&self, roll: &Roll, recipe: &Recipe) -> anyhow::Result<()> {
         let cells = roll.size().cells;
         println!(self.rt; "cells {cells} readings {}", roll.readings().len())?;

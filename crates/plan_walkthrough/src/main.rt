@@ -73,6 +73,8 @@ struct Plans<'a> {
 }
 
 impl Shows for Plans<'_> {
+    type Error = anyhow::Error;
+
     // The sample under each criterion, with one place for ends more than is needed, and then with one too few.
     fn recorded(&self, roll: &Roll, recipe: &Recipe) -> anyhow::Result<()> {
         let rt = self.rt;

@@ -34,7 +34,10 @@ fn same_limits() -> Result<Recipe, Refusal> {
 }
 
 // Each roll in its turn, the smaller first.
-pub fn show_largest(rt: &HostRuntime, shows: &impl Shows) -> anyhow::Result<()> {
+pub fn show_largest(
+    rt: &HostRuntime,
+    shows: &impl Shows<Error = anyhow::Error>,
+) -> anyhow::Result<()> {
     for cells in [16384, 32768] {
         let mut places = vec![in rt.alloc(); BLANK; 65536]?;
         let mut roll = Roll::idle(&mut places);

@@ -123,7 +123,9 @@ impl Job<'_, '_> {
             if let Some(found) = self.good_sheet(end) {
                 let mark = criterion.mark(self.roll.size().sheet, &found.counts);
                 total = criterion.add(total, mark);
-                println!(rt; "{end} {mark:?} {total:?}")?;
+                // in two writes: of a pipe that is nearly full the first may be taken alone
+                print!(rt; "{end} {mark:?}")?;
+                println!(rt; " {total:?}")?;
             }
         }
         let order = criterion.compare(total, criterion.none());
@@ -172,7 +174,10 @@ impl Job<'_, '_> {
 }
 
 // The walk over places of its own; a program shows more of the sample, and of it with cell 9 barred.
-pub fn walk(rt: &HostRuntime, more: &impl Shows) -> anyhow::Result<()> {
+pub fn walk<S: Shows>(rt: &HostRuntime, more: &S) -> Result<(), S::Error>
+where
+    S::Error: From<io::Error>,
+{
     let mut places = [BLANK; 3];
     let mut job = Job {
         rt,

@@ -35,6 +35,8 @@ impl Counts<'_> {
 }
 
 impl Shows for Counts<'_> {
+    type Error = anyhow::Error;
+
     fn recorded(&self, roll: &Roll, recipe: &Recipe) -> anyhow::Result<()> {
         self.show("open", roll, recipe)
     }

@@ -3,9 +3,9 @@
 
 use criteria::examples::criteria_examples_hold;
 use shows::walk::walk;
+use std::io;
 
-fn main(rt: HostRuntime) -> anyhow::Result<()> {
+fn main(rt: HostRuntime) -> io::Result<()> {
     walk(&rt, &())?;
-    println!(rt; "worked examples hold: {}", criteria_examples_hold())?;
-    Ok(())
+    println!(rt; "worked examples hold: {}", criteria_examples_hold())
 }
