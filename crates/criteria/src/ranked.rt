@@ -42,6 +42,8 @@ impl<A: Criterion, B: Criterion> Criterion for Ranked<A, B> {
         )
     }
 
+    // Inlined, so that the totals of two criteria are not copied to it.
+    #[inline(always)]
     fn compare(&self, a: (A::Total, B::Total), b: (A::Total, B::Total)) -> Ordering {
         let first = self.first.compare(a.0, b.0);
         first.then_with(|| self.second.compare(a.1, b.1))

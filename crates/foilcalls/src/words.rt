@@ -31,7 +31,8 @@ impl<'a> Words<'a> {
     // Digits alone, without a sign.
     pub(crate) fn number(&mut self) -> Option<u32> {
         let word = self.word()?;
-        if !word.bytes().all(|byte| byte.is_ascii_digit()) {
+        // what reads a number takes a sign before it, and no other byte that is no digit
+        if word.starts_with('+') {
             return None;
         }
         u32::from_str_radix(word, 10).ok()
