@@ -14,7 +14,7 @@ use choices::work::{WorkPlace, table};
 use criteria::criterion::Criterion;
 use model::refusal::Refusal;
 use planner::plan;
-use recipe::{Alter, Recipe};
+use recipe::{Alter, Recipe, Trial};
 use roll::Roll;
 use sheets::count;
 use std::alloc::{AllocError, Global};
@@ -89,4 +89,20 @@ pub(crate) fn make<R: Alter, C: Criterion>(
             Ok(planned(roll, recipe.recipe(), criterion, &mut table, places))
         }
     }
+}
+
+// Makes a call while a trial stands, as of the recipe itself. Apart from the loop over the calls, so that a call that goes
+// wrong in trials alone shows in this contract.
+pub(crate) fn make_in_trial<C: Criterion>(
+    heap: Global,
+    roll: &mut Roll,
+    trial: &mut Trial,
+    call: &Call<C>,
+) -> Result<Reply<C::Total>, AllocError>
+    ensures answer { IfOk result (λ r. Answers C.rules (log_of roll.old trial.old.recipe.now) call.now r) }
+    ensures after { OnOk result (log_of roll.new trial.new.recipe.now ≡ after_call (log_of roll.old trial.old.recipe.now) call.now) }
+    ensures laid { aside_log trial.new.recipe.now ≡ aside_log trial.old.recipe.now }
+    ensures lent { trial.new.recipe.ghost_name ≡ trial.old.recipe.ghost_name }
+{
+    make(heap, roll, trial, call)
 }

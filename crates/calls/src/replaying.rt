@@ -5,7 +5,7 @@ ghost use Rattle.calls.specs.Replay.{Stopped, Whole};
 
 use crate::answer::{Answer, Reply};
 use crate::call::{Call, Step};
-use crate::making::make;
+use crate::making::{make, make_in_trial};
 use crate::unplayed::Unplayed;
 use criteria::criterion::Criterion;
 use model::reading::BLANK;
@@ -54,7 +54,7 @@ impl<C: Criterion> Job<'_, C> {
         {
             let mut trial = recipe.trial();
             for call in calls {
-                replies.push(make(*heap, roll, &mut trial, call)?)?;
+                replies.push(make_in_trial(*heap, roll, &mut trial, call)?)?;
             }
         }
         replies.push(Ok(Answer::Accepted))?;

@@ -20,16 +20,16 @@ loop-call-preserved g c =
     let rules = g.C.Criterion.rules in
     let from : Course = course_of c.args.self.now.roll c.args.self.now.recipe in
     let mid : Course = course_of c.loop-call.roll c.loop-call.trial.recipe.now in
-    let to : Course = course_of c.make.new.roll c.make.new.recipe.recipe.now in
+    let to : Course = course_of c.make_in_trial.new.roll c.make_in_trial.new.trial.recipe.now in
     let calls = c.args.calls.now in
     let i = c.loop-call.call-index in
     let x = c.call-item.result in
     let last : map made (take (i + 1) calls) ≡ map made (take i calls) ++ made x ∷ [] =
     map_more made calls i x (omega arith) ∙ ap (λ y. map made (take i calls) ++ made y ∷ []) (sym c.call-item.is) in
     let Of : List (Event _) → Type 0 = λ es. Ran rules from to (begins ∷ es) (vec_items c.args.self.now.replies) (vec_items c.push-in-loop-call.new.self) in (
-      sym c.make.ensures.kept ∙ c.loop-call.invariant.0,
-      subst Of (sym last) (ran_next rules from mid to (begins ∷ map made (take i calls)) (made x) c.in_ok-make.field-0 (vec_items c.args.self.now.replies) (vec_items c.loop-call.replies)
-          (vec_items c.push-in-loop-call.new.self) c.loop-call.invariant.1 c.in_ok-make.ensures.answer (grind (arith, c.in_ok-make.ensures.after, c.make.ensures.laid)) c.in_ok-push-2.ensures.items),
+      c.make_in_trial.ensures.lent ∙ c.loop-call.invariant.0,
+      subst Of (sym last) (ran_next rules from mid to (begins ∷ map made (take i calls)) (made x) c.in_ok-make_in_trial.field-0 (vec_items c.args.self.now.replies) (vec_items c.loop-call.replies)
+          (vec_items c.push-in-loop-call.new.self) c.loop-call.invariant.1 c.in_ok-make_in_trial.ensures.answer (grind (arith, c.in_ok-make_in_trial.ensures.after, c.make_in_trial.ensures.laid)) c.in_ok-push-2.ensures.items),
     )
 
 pub returns : goal.returns
