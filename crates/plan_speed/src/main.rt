@@ -11,8 +11,8 @@ use planner::plan;
 use recipe::Recipe;
 use roll::Roll;
 use sheets::count;
-use shows::Shows;
-use shows::largest::{asks_for_times, show_largest};
+use shows::Program;
+use shows::largest::{asks_for_times, show_largest_for};
 use std::io;
 use std::time::Instant;
 
@@ -72,7 +72,7 @@ impl Answers<'_> {
     }
 }
 
-impl Shows for Answers<'_> {
+impl Program for Answers<'_> {
     type Error = anyhow::Error;
 
     fn recorded(&self, roll: &Roll, recipe: &Recipe) -> anyhow::Result<()> {
@@ -88,5 +88,5 @@ impl Shows for Answers<'_> {
 
 fn main(rt: HostRuntime) -> anyhow::Result<()> {
     let times = asks_for_times(&rt)?;
-    show_largest(&rt, &Answers { rt: &rt, times })
+    show_largest_for(&rt, &Answers { rt: &rt, times })
 }

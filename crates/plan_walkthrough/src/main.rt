@@ -11,8 +11,8 @@ use criteria::tally::Tally;
 use planner::{Ticket, plan};
 use recipe::Recipe;
 use roll::Roll;
-use shows::Shows;
-use shows::walk::walk;
+use shows::Program;
+use shows::walk::walk_for;
 use std::fmt::Debug;
 use std::io;
 
@@ -72,7 +72,7 @@ struct Plans<'a> {
     rt: &'a HostRuntime,
 }
 
-impl Shows for Plans<'_> {
+impl Program for Plans<'_> {
     type Error = anyhow::Error;
 
     // The sample under each criterion, with one place for ends more than is needed, and then with one too few.
@@ -103,7 +103,7 @@ impl Shows for Plans<'_> {
 }
 
 fn main(rt: HostRuntime) -> anyhow::Result<()> {
-    walk(&rt, &Plans { rt: &rt })?;
+    walk_for(&rt, &Plans { rt: &rt })?;
     println!(rt; "worked examples hold: {}", examples_hold())?;
     Ok(())
 }

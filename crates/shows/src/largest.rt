@@ -1,5 +1,5 @@
 // The largest roll and one of half its cells and readings, as they were measured and with every end barred.
-use crate::Shows;
+use crate::{AsProgram, Program, Shows};
 use model::reading::BLANK;
 use model::refusal::Refusal;
 use recipe::Recipe;
@@ -34,9 +34,9 @@ fn same_limits() -> Result<Recipe, Refusal> {
 }
 
 // Each roll in its turn, the smaller first.
-pub fn show_largest(
+pub fn show_largest_for(
     rt: &HostRuntime,
-    shows: &impl Shows<Error = anyhow::Error>,
+    shows: &impl Program<Error = anyhow::Error>,
 ) -> anyhow::Result<()> {
     for cells in [16384, 32768] {
         let mut places = vec![in rt.alloc(); BLANK; 65536]?;
@@ -49,6 +49,11 @@ pub fn show_largest(
         shows.barred(&roll, &recipe)?;
     }
     Ok(())
+}
+
+// The same rolls, for what ends with any error.
+pub fn show_largest(rt: &HostRuntime, shows: &impl Shows) -> anyhow::Result<()> {
+    show_largest_for(rt, &AsProgram { shows })
 }
 
 // Whether the program's argument is `times`.

@@ -1,6 +1,6 @@
 // A walk through one job: the sample roll is recorded, its cells and sheets are judged and counted, and some calls are
 // refused.
-use crate::Shows;
+use crate::{AsProgram, Program, Shows};
 use criteria::criterion::Criterion;
 use criteria::ladder::Ladder;
 use criteria::ranked::Ranked;
@@ -174,7 +174,7 @@ impl Job<'_, '_> {
 }
 
 // The walk over places of its own; a program shows more of the sample, and of it with cell 9 barred.
-pub fn walk<S: Shows>(rt: &HostRuntime, more: &S) -> Result<(), S::Error>
+pub fn walk_for<S: Program>(rt: &HostRuntime, more: &S) -> Result<(), S::Error>
 where
     S::Error: From<io::Error>,
 {
@@ -207,4 +207,9 @@ where
     tell(rt, "withdraw 1", job.roll.withdraw(1))?;
     job.show_count()?;
     Ok(())
+}
+
+// The same walk, for what ends with any error.
+pub fn walk(rt: &HostRuntime, more: &impl Shows) -> anyhow::Result<()> {
+    walk_for(rt, &AsProgram { shows: more })
 }

@@ -5,8 +5,8 @@
 use recipe::Recipe;
 use roll::Roll;
 use sheets::count;
-use shows::Shows;
-use shows::largest::{asks_for_times, show_largest};
+use shows::Program;
+use shows::largest::{asks_for_times, show_largest_for};
 use std::time::Instant;
 
 #[derive(Drop)]
@@ -34,7 +34,7 @@ impl Counts<'_> {
     }
 }
 
-impl Shows for Counts<'_> {
+impl Program for Counts<'_> {
     type Error = anyhow::Error;
 
     fn recorded(&self, roll: &Roll, recipe: &Recipe) -> anyhow::Result<()> {
@@ -48,5 +48,5 @@ impl Shows for Counts<'_> {
 
 fn main(rt: HostRuntime) -> anyhow::Result<()> {
     let times = asks_for_times(&rt)?;
-    show_largest(&rt, &Counts { rt: &rt, times })
+    show_largest_for(&rt, &Counts { rt: &rt, times })
 }

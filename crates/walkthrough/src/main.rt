@@ -2,10 +2,10 @@
 #![tactic(auto)]
 
 use criteria::examples::criteria_examples_hold;
-use shows::walk::walk;
+use shows::walk::walk_for;
 use std::io;
 
 fn main(rt: HostRuntime) -> io::Result<()> {
-    walk(&rt, &())?;
+    walk_for(&rt, &())?;
     println!(rt; "worked examples hold: {}", criteria_examples_hold())
 }
